@@ -1,0 +1,14 @@
+use borrow.Author.Needs.{needs}
+use Rattle.coding.proofs.Written.{element-one, element-two, two-else}
+use Rattle.coding.proofs.elements.number_at.Needs as need
+
+pub returns-then-element-width-eq1 : need.returns-then-element-width-eq1
+returns-then-element-width-eq1 g c =
+    let w = c .element-width .result in
+    element-one (g .F·Field .arithmetic) (c .args .part .now) (c .args .i) w (c .element-width .ensures) (c .if-element-width-eq1 .taken) (search needs)
+
+pub returns-else-element-width-eq1 : need.returns-else-element-width-eq1
+returns-else-element-width-eq1 g c =
+    let w = c .element-width .result in
+    let two = two-else (g .F·Field .arithmetic) w (c .element-width .ensures) (c .if-element-width-eq1 .left) in
+    element-two (g .F·Field .arithmetic) (c .args .part .now) (c .args .i) w (c .element-width .ensures) two (search needs)

@@ -1,0 +1,34 @@
+-- The Reed-Solomon code: what board j holds of a block and of a commitment vector, and how they are decoded.
+use mathlib.Core.Path.{_≡_}
+use mathlib.Core.List.{List, map}
+use Prim.Native.Nat.{ℕ, _+_, _-_, _*_, _<_, _≤_}
+use lib.ListN.{length}
+use Rattle.field.specs.Laws.{Arithmetic, width}
+use Rattle.coding.specs.Pieces.{piece, laid, filled}
+use Rattle.coding.specs.Numbers.{written, number}
+use Rattle.coding.specs.Polynomial.{All, Codes, Distinct, eval, interpolated}
+use Rattle.coding.specs.Lengths.{board-count, row-length, vector-length, share-rows}
+
+-- The values at the code j of the first q rows of k bytes of xs, each written as an element.
+abbrev pub coded : Arithmetic → ℕ → ℕ → List ℕ → ℕ → List ℕ
+coded R k q xs j = laid (λ i. written (width R) (eval R (piece k xs i) j)) q
+
+-- The fragment of board j of a block of r rows.
+abbrev pub fragment : Arithmetic → ℕ → ℕ → List ℕ → ℕ → List ℕ
+fragment R t r block j = coded R (row-length t) r block j
+
+-- The share of board j of a vector, which is filled up with zero bytes to whole rows.
+abbrev pub share : Arithmetic → ℕ → List ℕ → ℕ → List ℕ
+share R t vector j = coded R (row-length t) (share-rows t) (filled (share-rows t * row-length t) vector) j
+
+-- The element i of a fragment or a share, as the number that its bytes write.
+abbrev pub element : Arithmetic → List ℕ → ℕ → ℕ
+element R x i = number (piece (width R) x i)
+
+-- The coefficients of q rows, row after row, from the parts of the boards js.
+abbrev pub decoded : Arithmetic → (ℕ → ℕ) → ℕ → List ℕ → (ℕ → List ℕ) → List ℕ
+decoded R inv q js part = laid (λ i. interpolated R inv js (map (λ j. element R (part j) i) js)) q
+
+-- A byte string.
+abbrev pub Bytes : List ℕ → Type 0
+Bytes = All (λ b. b < 256)

@@ -1,0 +1,5 @@
+pub mod Pieces
+pub mod Numbers
+pub mod Polynomial
+pub mod Lengths
+pub mod Code
