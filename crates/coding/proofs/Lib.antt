@@ -3,3 +3,7 @@ pub mod Roots
 pub mod Newton
 pub mod Pieces
 pub mod Written
+pub mod Encoded
+pub mod Sizes
+pub mod Decoded
+pub mod Fits

@@ -7,7 +7,8 @@ use lib.ListN.{length}
 use Rattle.std.proofs.shelf.Lists.{length-map}
 use Rattle.field.specs.Laws.{Arithmetic, Ring-Laws, Field-Laws}
 use Rattle.field.proofs.Rings.{mul-zero, equal, add-sub, sub-self, zero-mul, one-mul}
-use Rattle.coding.specs.Polynomial.{All, Codes, Distinct, eval, values, slopes, raised, interpolated, Interpolates}
+use Rattle.std.specs.shelf.Lists.{All}
+use Rattle.coding.specs.Polynomial.{Codes, Distinct, eval, values, slopes, raised, interpolated, Interpolates}
 use Rattle.coding.proofs.Evaluation.{eval-code}
 use Rattle.coding.proofs.Roots.{regroup, unique}
 
@@ -88,7 +89,7 @@ module _ (R : Arithmetic) (inv : ℕ → ℕ) (I : Field-Laws R inv) where
       ∙ slope-undone d v w (I .ring .differences .code y r) hv (hw .0) (λ z. ne .0 (equal R (I .ring) y r (hy .0) hr z)))
       (others r v cs ys ws hr hv hc (hy .1) (hw .1) (ne .1) (omega arith) rest)
 
-  -- it has the given values
+  -- It has the given values.
   pub through : (xs vs : List ℕ) → length vs ≡ length xs → Codes R xs → Codes R vs → Distinct xs → values R (interpolated R inv xs vs) xs ≡ vs
   through [] [] n hx hv ne = refl
   through [] (v ∷ vs) n hx hv ne = absurd (omega arith)
@@ -106,9 +107,9 @@ module _ (R : Arithmetic) (inv : ℕ → ℕ) (I : Field-Laws R inv) where
       (others x v cs xs vs (hx .0) (hv .0) hc (hx .1) (hv .1) (ne .0) m
       (through xs ss (slopes-length R inv (x, v) xs vs m) (hx .1) hs (ne .1)))
 
-  -- decoding undoes encoding
-  pub decoded : (xs p : List ℕ) → length p ≡ length xs → Codes R p → Codes R xs → Distinct xs → interpolated R inv xs (values R p xs) ≡ p
-  decoded xs p n hp hx ne =
+  -- Interpolation of the values of a polynomial returns it.
+  pub interpolated-values : (xs p : List ℕ) → length p ≡ length xs → Codes R p → Codes R xs → Distinct xs → interpolated R inv xs (values R p xs) ≡ p
+  interpolated-values xs p n hp hx ne =
       let vs = values R p xs in
       let hv : Codes R vs = map-codes (R .size) (eval R p) xs (eval-code R (I .ring) p) in
       let m : length vs ≡ length xs = length-map xs (eval R p) in
@@ -121,5 +122,5 @@ module _ (R : Arithmetic) (inv : ℕ → ℕ) (I : Field-Laws R inv) where
     as-many = interpolated-length R inv xs vs n;
     codes = interpolated-codes xs vs hv;
     right = through xs vs n hx hv ne;
-    only = λ p m hp e. sym (decoded xs p m hp hx ne) ∙ ap (interpolated R inv xs) e;
+    only = λ p m hp e. sym (interpolated-values xs p m hp hx ne) ∙ ap (interpolated R inv xs) e;
   }

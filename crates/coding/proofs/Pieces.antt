@@ -8,8 +8,9 @@ use native.Mathlib.Numerals.{add-one}
 use native.Mathlib.Omega.{arith}
 use lib.ListN.{length, take, drop, replicate}
 use lib.Seq.{take-add}
+use borrow.Rule.Slice.PartMut.{putMid}
 use Rattle.std.proofs.shelf.Bits.{mul-le}
-use Rattle.std.proofs.shelf.Lists.{length-append, length-drop, length-take-le, take-all, take-append-le, drop-append-le, drop-at}
+use Rattle.std.proofs.shelf.Lists.{append-assoc, length-append, length-drop, take-all, take-append-le, take-at, drop-append-le, drop-at, drop-drop}
 use Rattle.std.proofs.shelf.Tests.{cases-lt}
 use Rattle.coding.specs.Pieces.{piece, laid}
 
@@ -72,3 +73,20 @@ laid-pieces w xs (suc n) =
 
 pub laid-whole : (w : ℕ) (xs : List ℕ) (n : ℕ) → length xs ≡ n * w → laid (piece w xs) n ≡ xs
 laid-whole w xs n l = laid-pieces w xs n ∙ take-all (n * w) xs (omega arith)
+
+-- One more piece, written straight into its part of a memory that has the pieces before it.
+pub laid-part : (f : ℕ → List ℕ) (w i k : ℕ) (was memory part : List ℕ) → ((i : ℕ) → length (f i) ≡ w) → i * w + w ≤ length was → k ≡ w →
+    memory ≡ laid f i ++ drop (i * w) was → part ≡ f i → putMid (i * w) k memory part ≡ laid f (i + 1) ++ drop ((i + 1) * w) was
+laid-part f w i k was memory part long fits kw is made =
+    let front = laid f i in
+    let a = i * w in
+    let l : length front ≡ a = length-laid f w i (λ i h. long i) in
+    let n : a + w ≡ (i + 1) * w = sym (add-mul i 1 w ∙ ap (λ b. a + b) (one-mul w)) in
+    ap₂ (λ m p. putMid a k m p) is made
+    ∙ ap (λ k. putMid a k (front ++ drop a was) (f i)) kw
+    ∙ ap₂ (λ u v. u ++ (f i ++ drop w v)) (take-at front (drop a was) a l) (drop-at front (drop a was) a l)
+    ∙ sym (append-assoc front (f i) (drop w (drop a was)))
+    ∙ ap₂ _++_ (sym (laid-more f i)) (drop-drop w a was ∙ ap (λ m. drop m was) n)
+
+pub laid-start : (f : ℕ → List ℕ) (w : ℕ) (memory : List ℕ) → memory ≡ laid f 0 ++ drop (0 * w) memory
+laid-start f w memory = ap₂ (λ u n. u ++ drop n memory) (sym (laid-none f)) (sym (zero-mul w))

@@ -6,7 +6,8 @@ use native.Mathlib.Omega.{arith}
 use lib.ListN.{length}
 use Rattle.field.specs.Laws.{Arithmetic, Ring-Laws, Field-Laws}
 use Rattle.field.proofs.Rings.{zero-code, add-cancel, mul-zero, equal, add-mul, add-sub, mul-cancel}
-use Rattle.coding.specs.Polynomial.{All, Codes, Distinct, eval}
+use Rattle.std.specs.shelf.Lists.{All}
+use Rattle.coding.specs.Polynomial.{Codes, Distinct, eval}
 use Rattle.coding.proofs.Evaluation.{eval-code}
 
 -- for a polynomial c + x s, the quotient of its division by x - r

@@ -6,7 +6,8 @@ use lib.ListN.{length}
 use Rattle.field.specs.Laws.{Arithmetic, width}
 use Rattle.coding.specs.Pieces.{piece, laid, filled}
 use Rattle.coding.specs.Numbers.{written, number}
-use Rattle.coding.specs.Polynomial.{All, Codes, Distinct, eval, interpolated}
+use Rattle.std.specs.shelf.Lists.{All}
+use Rattle.coding.specs.Polynomial.{Codes, Distinct, eval, interpolated}
 use Rattle.coding.specs.Lengths.{board-count, row-length, vector-length, share-rows}
 
 -- The values at the code j of the first q rows of k bytes of xs, each written as an element.
@@ -32,3 +33,15 @@ decoded R inv q js part = laid (λ i. interpolated R inv js (map (λ j. element 
 -- A byte string.
 abbrev pub Bytes : List ℕ → Type 0
 Bytes = All (λ b. b < 256)
+
+-- t + 1 different boards.
+pub record Chosen (t : ℕ) (js : List ℕ) : Type 0 where
+  pub enough : length js ≡ row-length t
+  pub boards : All (λ j. (1 ≤ j) × (j ≤ board-count t)) js
+  pub distinct : Distinct js
+
+-- Two commitment vectors whose shares agree at t + 1 boards are equal.
+abbrev pub Shares-fix-vectors : Arithmetic → ℕ → Type 0
+Shares-fix-vectors R t =
+    (js v u : List ℕ) → Chosen t js → Bytes v → Bytes u → length v ≡ vector-length t → length u ≡ vector-length t →
+    All (λ j. share R t v j ≡ share R t u j) js → v ≡ u

@@ -11,6 +11,10 @@ in-range t r = (leb 1 t && leb t 5) && (leb 1 r && leb r 512)
 abbrev pub board-count : ℕ → ℕ
 board-count t = 3 * t + 1
 
+-- Boards have the numbers 1 to n.
+abbrev pub is-board : ℕ → ℕ → Bool
+is-board t j = leb 1 j && leb j (board-count t)
+
 -- the bytes of a row, which are the coefficients of its polynomial
 abbrev pub row-length : ℕ → ℕ
 row-length t = t + 1

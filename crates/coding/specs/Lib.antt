@@ -3,3 +3,4 @@ pub mod Numbers
 pub mod Polynomial
 pub mod Lengths
 pub mod Code
+pub mod Shaped

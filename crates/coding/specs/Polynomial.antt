@@ -4,12 +4,8 @@ use mathlib.Core.List.{List, [], _∷_, map}
 use Prim.Native.Nat.{ℕ, _<_}
 use lib.ListN.{length, getD, take, set, replicate}
 use Rattle.std.specs.Iters.{counting}
+use Rattle.std.specs.shelf.Lists.{All}
 use Rattle.field.specs.Laws.{Arithmetic}
-
--- What holds of each element of a list.
-abbrev pub All : {A : Type 0} → (A → Type 0) → List A → Type 0
-All P [] = Unit {0}
-All P (x ∷ xs) = P x × All P xs
 
 abbrev pub Codes : Arithmetic → List ℕ → Type 0
 Codes R = All (λ a. a < R .size)

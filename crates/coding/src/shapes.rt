@@ -12,10 +12,7 @@ use field::Field;
 pub struct Shape {
     faults: usize,
     rows: usize,
-    ghost faults_least: { 1 ≤ faults },
-    ghost faults_most: { faults ≤ 5 },
-    ghost rows_least: { 1 ≤ rows },
-    ghost rows_most: { rows ≤ 512 },
+    ghost range: { (1 ≤ faults) × (faults ≤ 5) × (1 ≤ rows) × (rows ≤ 512) },
 }
 
 impl Shape {
