@@ -10,11 +10,11 @@ use Rattle.std.proofs.shelf.Lists.{length-append, length-replicate, length-drop
 use Rattle.field.specs.Laws.{Arithmetic, Ring-Laws, Field-Laws, width}
 use Rattle.coding.specs.Pieces.{piece, laid, filled}
 use Rattle.coding.specs.Numbers.{written, number}
-use Rattle.coding.specs.Polynomial.{Codes, Distinct, eval, values, interpolated}
+use Rattle.polynomial.specs.Polynomial.{Codes, Distinct, eval, values, interpolated}
 use Rattle.coding.specs.Lengths.{board-count, row-length, vector-length, share-rows}
 use Rattle.coding.specs.Code.{coded, share, element, decoded, Bytes, Chosen, Shares-fix-vectors}
-use Rattle.coding.proofs.Evaluation.{eval-code, zeros-codes}
-use Rattle.coding.proofs.Newton.{interpolated-values}
+use Rattle.polynomial.proofs.Evaluation.{eval-code, zeros-codes}
+use Rattle.polynomial.proofs.Newton.{interpolated-values}
 use Rattle.coding.proofs.Pieces.{piece-end, piece-laid, laid-same, laid-whole}
 use Rattle.coding.proofs.Written.{written-length, number-written}
 use Rattle.coding.proofs.Sizes.{share-rows-enough, boards-codes}

@@ -12,9 +12,9 @@ use Rattle.std.proofs.shelf.Tests.{cases-lt}
 use Rattle.field.specs.Laws.{Arithmetic, Ring-Laws, width}
 use Rattle.coding.specs.Pieces.{piece, laid, filled, put}
 use Rattle.coding.specs.Numbers.{written}
-use Rattle.coding.specs.Polynomial.{eval}
+use Rattle.polynomial.specs.Polynomial.{eval}
 use Rattle.coding.specs.Code.{coded}
-use Rattle.coding.proofs.Evaluation.{eval-filled}
+use Rattle.polynomial.proofs.Evaluation.{eval-filled}
 use Rattle.coding.proofs.Pieces.{laid-none, laid-more, length-laid}
 use Rattle.coding.proofs.Written.{written-length}
 

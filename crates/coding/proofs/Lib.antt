@@ -1,9 +1,8 @@
-pub mod Evaluation
-pub mod Roots
-pub mod Newton
 pub mod Pieces
 pub mod Written
 pub mod Encoded
 pub mod Sizes
 pub mod Decoded
 pub mod Fits
+pub mod Selected
+pub mod Rows

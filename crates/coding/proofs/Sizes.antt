@@ -8,7 +8,7 @@ use Rattle.std.specs.shelf.Lists.{All}
 use Rattle.std.proofs.shelf.Bits.{div-add-mod'}
 use Rattle.std.proofs.shelf.Elements.{all-weaker}
 use Rattle.field.specs.Laws.{Arithmetic, Ring-Laws}
-use Rattle.coding.specs.Polynomial.{Codes}
+use Rattle.polynomial.specs.Polynomial.{Codes}
 use Rattle.coding.specs.Lengths.{board-count, row-length, vector-length, share-rows}
 use Rattle.coding.proofs.Pieces.{piece-end}
 

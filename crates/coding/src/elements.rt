@@ -8,7 +8,7 @@ ghost use Rattle.std.specs.declared.option.Option.the-variants.{Some, None};
 ghost use Rattle.field.specs.Laws.{width};
 ghost use Rattle.coding.specs.Pieces.{put};
 ghost use Rattle.coding.specs.Numbers.{written};
-ghost use Rattle.coding.specs.Code.{element};
+ghost use Rattle.coding.specs.Code.{element, First-overrun};
 use field::Field;
 
 /// The number that the bytes of element `i` write, whether it is a code or not.
@@ -61,4 +61,16 @@ pub fn write_element<F: Field>(part: &mut [u8], i: usize, value: u16) -> bool
     }
     put_number::<F>(part, i, value);
     true
+}
+
+/// The first element of a part whose number is not a code, or none where all are codes.
+pub fn overrun<F: Field>(part: &[u8]) -> Option<usize>
+    ensures { λ r. ⌜ First-overrun arithmetic (now (part .entry)) (length (now (part .entry)) / width arithmetic) r ⌝ }
+{
+    for i in 0..part.len() / F::element_width() {
+        if u32::from(number_at::<F>(part, i)) >= F::order() {
+            return Some(i);
+        }
+    }
+    None
 }

@@ -9,9 +9,9 @@ ghost use Rattle.coding.specs.Pieces.{filled};
 ghost use Rattle.coding.specs.Code.{coded, Shares-fix-vectors};
 ghost use Rattle.coding.specs.Shaped.{fragment-fits, share-fits, fragments-fit, fragment-of, share-of, fragments-of, fragments-length};
 use crate::elements::put_number;
-use crate::horner::value_at;
 use crate::shapes::Shape;
 use field::Field;
+use polynomial::value_at;
 
 /// Writes, for each of `rows` rows of `k` bytes of the source, its value at `code`. Bytes past the source's end count as zeros.
 fn encode_rows<F: Field>(k: usize, rows: usize, source: &[u8], code: u16, part: &mut [u8])

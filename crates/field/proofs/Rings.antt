@@ -6,10 +6,10 @@ use Rattle.field.specs.Laws.{Arithmetic, Ring-Laws, Field-Laws}
 
 module _ (R : Arithmetic) (L : Ring-Laws R) where
   pub zero-code : 0 < R .size
-  zero-code = omega (arith, L .least)
+  zero-code = omega arith
 
   pub one-code : 1 < R .size
-  one-code = omega (arith, L .least)
+  one-code = omega arith
 
   pub zero-add : (a : ℕ) → a < R .size → R .add 0 a ≡ a
   zero-add a ha = L .add-comm 0 a zero-code ha ∙ L .add-zero a ha

@@ -1,6 +1,6 @@
 -- An element takes one byte or two.
-use mathlib.Core.Bool.{Bool, true, false, cond}
-use Prim.Native.Nat.{ℕ, _≤_}
+use mathlib.Core.Bool.{true, false, cond}
+use Prim.Native.Nat.{_≤_}
 use lib.Dec.{eqb, lit≤}
 use Rattle.field.specs.Laws.{Arithmetic, width}
 

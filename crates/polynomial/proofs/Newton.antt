@@ -8,16 +8,16 @@ use Rattle.std.proofs.shelf.Lists.{length-map}
 use Rattle.field.specs.Laws.{Arithmetic, Ring-Laws, Field-Laws}
 use Rattle.field.proofs.Rings.{mul-zero, equal, add-sub, sub-self, zero-mul, one-mul}
 use Rattle.std.specs.shelf.Lists.{All}
-use Rattle.coding.specs.Polynomial.{Codes, Distinct, eval, values, slopes, raised, interpolated, Interpolates}
-use Rattle.coding.proofs.Evaluation.{eval-code}
-use Rattle.coding.proofs.Roots.{regroup, unique}
+use Rattle.polynomial.specs.Polynomial.{Codes, Distinct, eval, values, slopes, raised, interpolated, Interpolates}
+use Rattle.polynomial.proofs.Evaluation.{eval-code}
+use Rattle.polynomial.proofs.Roots.{regroup, unique}
 
 pub slopes-length : (R : Arithmetic) (inv : ℕ → ℕ) (p : ℕ × ℕ) (ys ws : List ℕ) → length ws ≡ length ys → length (slopes R inv p ys ws) ≡ length ys
 slopes-length R inv p [] ws n = refl
 slopes-length R inv p (y ∷ ys) [] n = absurd (omega arith)
 slopes-length R inv p (y ∷ ys) (w ∷ ws) n = ap suc (slopes-length R inv p ys ws (omega arith))
 
-raised-length : (R : Arithmetic) (x v : ℕ) (cs : List ℕ) → length (raised R x v cs) ≡ suc (length cs)
+pub raised-length : (R : Arithmetic) (x v : ℕ) (cs : List ℕ) → length (raised R x v cs) ≡ suc (length cs)
 raised-length R x v [] = refl
 raised-length R x v (c ∷ cs) = ap suc (raised-length R x c cs)
 

@@ -7,8 +7,8 @@ use lib.ListN.{length}
 use Rattle.field.specs.Laws.{Arithmetic, Ring-Laws, Field-Laws}
 use Rattle.field.proofs.Rings.{zero-code, add-cancel, mul-zero, equal, add-mul, add-sub, mul-cancel}
 use Rattle.std.specs.shelf.Lists.{All}
-use Rattle.coding.specs.Polynomial.{Codes, Distinct, eval}
-use Rattle.coding.proofs.Evaluation.{eval-code}
+use Rattle.polynomial.specs.Polynomial.{Codes, Distinct, eval}
+use Rattle.polynomial.proofs.Evaluation.{eval-code}
 
 -- for a polynomial c + x s, the quotient of its division by x - r
 abbrev quotient : Arithmetic → ℕ → List ℕ → List ℕ

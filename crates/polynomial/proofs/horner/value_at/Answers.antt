@@ -3,9 +3,9 @@ use Prim.Native.Nat.{_+_, _-_, _<_}
 use native.Mathlib.Omega.{arith}
 use lib.ListN.{length}
 use lib.Seq.{drop-length}
-use Rattle.coding.specs.Polynomial.{eval}
-use Rattle.coding.proofs.Evaluation.{eval-more}
-use Rattle.coding.proofs.horner.value_at.Needs as need
+use Rattle.polynomial.specs.Polynomial.{eval}
+use Rattle.polynomial.proofs.Evaluation.{eval-more}
+use Rattle.polynomial.proofs.horner.value_at.Needs as need
 
 pub loop-i-holds : need.loop-i-holds
 loop-i-holds g c = sym (ap (λ l. eval (g .F·Field .arithmetic) l (c .args .x)) (drop-length (c .args .row .now)))

@@ -7,7 +7,7 @@ use lib.ListN.{length, getD, drop, replicate}
 use lib.Seq.{drop-cons}
 use Rattle.field.specs.Laws.{Arithmetic, Ring-Laws}
 use Rattle.field.proofs.Rings.{zero-code, mul-zero}
-use Rattle.coding.specs.Polynomial.{Codes, eval}
+use Rattle.polynomial.specs.Polynomial.{Codes, eval}
 
 -- One more coefficient, from the last on.
 pub eval-more : (R : Arithmetic) (row : List ℕ) (i x : ℕ) → i < length row →

@@ -1,6 +1,6 @@
 // Values of polynomials.
 ghost use mathlib.Core.Path.{_≡_};
-ghost use Rattle.coding.specs.Polynomial.{eval};
+ghost use Rattle.polynomial.specs.Polynomial.{eval};
 use field::Field;
 
 /// The value at `x` of the polynomial with the bytes of `row` for its coefficients, the constant first: Horner's rule.

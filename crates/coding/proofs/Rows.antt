@@ -1,0 +1,60 @@
+-- The coefficients of a row, from the points of the chosen boards.
+use mathlib.Core.Path.{_≡_, refl, sym, ap, ap₂, subst, _∙_}
+use mathlib.Core.Bool.{true}
+use mathlib.Core.List.{List, [], _∷_, map}
+use Prim.Native.Nat.{ℕ, _<_}
+use lib.ListN.{length, take}
+use Rattle.std.specs.Options.{SomeBy, isSome}
+use Rattle.std.specs.declared.option.Option.{Option}
+use Rattle.std.specs.declared.option.Option.the-variants.{Some, None}
+use Rattle.std.specs.shelf.Lists.{All}
+use Rattle.std.proofs.shelf.Elements.{all-map, all-weaker}
+use Rattle.field.specs.Laws.{Arithmetic, Ring-Laws}
+use Rattle.polynomial.specs.declared.interpolation.Basis.{Basis}
+use Rattle.polynomial.specs.Polynomial.{Codes, Distinct, interpolated}
+use Rattle.polynomial.specs.Interpolation.{codes-of, values-of, Basis-of, Solves}
+use Rattle.coding.specs.declared.shapes.Shape.{Shape}
+use Rattle.coding.specs.Code.{element, Elements}
+use Rattle.coding.specs.Decoding.{held, points-of, row-coefficients, Sound, Ready}
+use Rattle.coding.proofs.Selected.{chosen}
+use Rattle.coding.proofs.Sizes.{boards-codes}
+
+-- What interpolation through points promises, as the contract of a basis has it.
+abbrev pub Through : Arithmetic → (ℕ → ℕ) → Basis → List (ℕ × ℕ) → Option (List ℕ) → Type 0
+Through R inv b ps r = (xs : List ℕ) → Basis-of R inv xs b → codes-of ps ≡ xs → Codes R xs → Distinct xs → Codes R (values-of ps) → SomeBy r (Solves R inv xs (values-of ps))
+
+module _ (f : ℕ → ℕ) where
+  codes-points : (js : List ℕ) → codes-of (map (λ j. (j, f j)) js) ≡ js
+  codes-points [] = refl
+  codes-points (j ∷ js) = ap (λ l. j ∷ l) (codes-points js)
+
+  values-points : (js : List ℕ) → values-of (map (λ j. (j, f j)) js) ≡ map f js
+  values-points [] = refl
+  values-points (j ∷ js) = ap (λ l. f j ∷ l) (values-points js)
+
+there : {A : Type 0} (r : Option A) (P : A → Type 0) → SomeBy r P → isSome r ≡ true
+there (Some x) P h = refl
+there None P h = absurd h
+
+at : {A : Type 0} (r : Option A) (P : A → Type 0) → SomeBy r P → (x : A) → r ≡ Some x → P x
+at r P h x e = subst (λ o. SomeBy o P) e h
+
+module _ (R : Arithmetic) (inv : ℕ → ℕ) (L : Ring-Laws R) (s : Shape) (fragments js : List ℕ) (b : Basis) (ready : Ready R inv s fragments js b) (i : ℕ) (h : i < s .rows)
+    (ps : List (ℕ × ℕ)) (is : ps ≡ points-of R s fragments js i) (r : Option (List ℕ)) (through : Through R inv b ps r) where
+  values-is : values-of ps ≡ map (λ j. element R (held R s fragments j) i) js
+  values-is = ap values-of is ∙ values-points (λ j. element R (held R s fragments j) i) js
+
+  solved : SomeBy r (Solves R inv js (values-of ps))
+  solved =
+      let c = chosen s js (ready .chosen) in
+      through js (ready .basis) (ap codes-of is ∙ codes-points (λ j. element R (held R s fragments j) i) js)
+      (boards-codes R L (s .faults) js (s .range .1) (c .boards)) (c .distinct)
+      (subst (Codes R) (sym values-is)
+      (all-map (λ a. a < R .size) (λ j. element R (held R s fragments j) i) js
+      (all-weaker (λ j. Elements R (held R s fragments j) (s .rows)) (λ j. element R (held R s fragments j) i < R .size) (λ j e. e i h) js (ready .sound))))
+
+  pub row-there : isSome r ≡ true
+  row-there = there r (Solves R inv js (values-of ps)) solved
+
+  pub row-is : (cs : List ℕ) → r ≡ Some cs → take (length js) cs ≡ row-coefficients R inv s fragments js i
+  row-is cs e = at r (Solves R inv js (values-of ps)) solved cs e .newton ∙ ap (interpolated R inv js) values-is

@@ -1,0 +1,90 @@
+// How t + 1 fragments give a block back.
+ghost use mathlib.Core.Path.{_≡_};
+ghost use mathlib.Core.Bool.{Bool, true, false};
+ghost use mathlib.Core.List.{map};
+ghost use Prim.Native.Nat.{ℕ, _*_, _<_, _≤_};
+ghost use lib.ListN.{length, take};
+ghost use Rattle.std.specs.Orderings.{Decides};
+ghost use Rattle.coding.specs.Code.{element, Bytes};
+ghost use Rattle.polynomial.specs.Polynomial.{interpolated};
+ghost use Rattle.coding.specs.Decoding.{are-chosen, decode-fits, held, points-of, row-coefficients, Sound, coefficients, Decoding, Decoding-undoes-encoding, Ready};
+ghost use Rattle.coding.specs.Lengths.{board-count};
+ghost use Rattle.coding.specs.Shaped.{fragments-length, is-block};
+use crate::elements::number_at;
+use crate::elements::overrun;
+use crate::shapes::Shape;
+use field::Field;
+use polynomial::Basis;
+use polynomial::rising;
+
+/// Why fragments do not decode to a block.
+#[derive(Clone, Copy, PartialEq, Eq, Debug, Drop)]
+pub enum Undecodable {
+    /// A length does not fit, or the boards are not t + 1 boards in rising order.
+    Unfit,
+    /// An element of a chosen board's fragment is not a code of the field.
+    Overrun,
+    /// The fragments are those of no block: a coefficient is not a byte.
+    Unreadable,
+}
+
+impl Shape {
+    /// Whether there are fragments of all boards, `boards` are t + 1 in rising order, and a block has `length` bytes.
+    fn fits_decoding<F: Field>(&self, fragments: &[u8], boards: &[u16], block: &[u8]) -> bool
+        ensures { λ r. ⌜ r ≡ decode-fits arithmetic (now (self .entry)) (now (fragments .entry)) (now (boards .entry)) (now (block .entry)) ⌝ }
+    {
+        let count = self.boards();
+        fragments.len() == count * self.fragment_bytes::<F>()
+            && boards.len() == self.row_bytes()
+            && rising(boards, 1, count as u32 + 1)
+            && block.len() == self.block_bytes()
+    }
+
+    /// The fragment of a board among those of all boards.
+    fn held_by<'a, F: Field>(&self, fragments: &'a [u8], board: u16) -> &'a [u8]
+        requires { ⌜ length (now fragments) ≡ fragments-length arithmetic (now self) ⌝ ∗ ⌜ 1 ≤ board ⌝ ∗ ⌜ board ≤ board-count (now self .faults) ⌝ }
+        ensures { λ r. ⌜ now r ≡ held arithmetic (now (self .entry)) (now (fragments .entry)) board ⌝ }
+    {
+        let size = self.fragment_bytes::<F>();
+        let from = (board as usize - 1) * size;
+        &fragments[from..from + size]
+    }
+
+    /// Whether the elements of the chosen boards' fragments are codes.
+    fn holds_codes<F: Field>(&self, fragments: &[u8], boards: &[u16]) -> bool
+        requires { ⌜ length (now fragments) ≡ fragments-length arithmetic (now self) ⌝ ∗ ⌜ are-chosen (now self) (now boards) ≡ true ⌝ }
+        ensures { λ r. ⌜ Decides r (Sound arithmetic (now (self .entry)) (now (fragments .entry)) (now (boards .entry))) ⌝ }
+    {
+        for board in boards {
+            if let Some(_) = overrun::<F>(self.held_by::<F>(fragments, *board)) {
+                return false;
+            }
+        }
+        true
+    }
+
+    /// The points of row `i`: each chosen board's number, and the value that its fragment has there.
+    fn points<F: Field>(&self, fragments: &[u8], boards: &[u16], i: usize) -> [(u16, u16); 6]
+        requires { ⌜ length (now fragments) ≡ fragments-length arithmetic (now self) ⌝ ∗ ⌜ are-chosen (now self) (now boards) ≡ true ⌝ ∗ ⌜ i < now self .rows ⌝ }
+        ensures { λ r. ⌜ take (length (now (boards .entry))) r ≡ points-of arithmetic (now (self .entry)) (now (fragments .entry)) (now (boards .entry)) i ⌝ }
+    {
+        let mut points = [(0, 0); 6];
+        for k in 0..boards.len() {
+            let board = boards[k];
+            points[k] = (
+                board,
+                number_at::<F>(self.held_by::<F>(fragments, board), i),
+            );
+        }
+        points
+    }
+
+    /// The coefficients of row `i`, in the first places.
+    fn row<F: Field>(&self, basis: &Basis, fragments: &[u8], boards: &[u16], i: usize) -> [u16; 6]
+        requires { ⌜ Ready arithmetic inverted (now self) (now fragments) (now boards) (now basis) ⌝ ∗ ⌜ i < now self .rows ⌝ }
+        ensures { λ r. ⌜ take (length (now (boards .entry))) r ≡ row-coefficients arithmetic inverted (now (self .entry)) (now (fragments .entry)) (now (boards .entry)) i ⌝ }
+    {
+        let points = self.points::<F>(fragments, boards, i);
+        basis.interpolate::<F>(&points[0..boards.len()]).unwrap()
+    }
+}
