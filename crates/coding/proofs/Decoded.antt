@@ -12,7 +12,8 @@ use Rattle.coding.specs.Pieces.{piece, laid, filled}
 use Rattle.coding.specs.Numbers.{written, number}
 use Rattle.polynomial.specs.Polynomial.{Codes, Distinct, eval, values, interpolated}
 use Rattle.coding.specs.Lengths.{board-count, row-length, vector-length, share-rows}
-use Rattle.coding.specs.Code.{coded, share, element, decoded, Bytes, Chosen, Shares-fix-vectors}
+use Rattle.coding.specs.Code.{coded, share, element, decoded, Chosen, Shares-fix-vectors}
+use Rattle.hash.specs.Bytes.{Bytes}
 use Rattle.polynomial.proofs.Evaluation.{eval-code, zeros-codes}
 use Rattle.polynomial.proofs.Newton.{interpolated-values}
 use Rattle.coding.proofs.Pieces.{piece-end, piece-laid, laid-same, laid-whole}
@@ -20,7 +21,7 @@ use Rattle.coding.proofs.Written.{written-length, number-written}
 use Rattle.coding.proofs.Sizes.{share-rows-enough, boards-codes}
 
 -- The element i of what board j holds is the value of row i.
-element-coded : (R : Arithmetic) (L : Ring-Laws R) (k q : ℕ) (xs : List ℕ) (j i : ℕ) → i < q → element R (coded R k q xs j) i ≡ eval R (piece k xs i) j
+pub element-coded : (R : Arithmetic) (L : Ring-Laws R) (k q : ℕ) (xs : List ℕ) (j i : ℕ) → i < q → element R (coded R k q xs j) i ≡ eval R (piece k xs i) j
 element-coded R L k q xs j i h =
     let value : ℕ → ℕ = λ i. eval R (piece k xs i) j in
     ap number (piece-laid (λ i. written (width R) (value i)) (width R) q i h (λ i l. written-length (width R) (value i)))
@@ -46,7 +47,7 @@ module _ (R : Arithmetic) (inv : ℕ → ℕ) (I : Field-Laws R inv) where
       (all-take (λ a. a < R .size) k (drop (i * k) xs) (all-drop (λ a. a < R .size) (i * k) xs hx)) hj ne)
       ∙ laid-whole k xs q l
 
-  bytes-codes : (xs : List ℕ) → Bytes xs → Codes R xs
+  pub bytes-codes : (xs : List ℕ) → Bytes xs → Codes R xs
   bytes-codes xs = all-weaker (λ b. b < 256) (λ a. a < R .size) (λ x h. omega (arith, I .ring .least)) xs
 
   -- A vector is the front of what its shares decode to.

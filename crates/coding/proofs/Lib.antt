@@ -1,4 +1,5 @@
 pub mod Pieces
+pub mod Tried
 pub mod Written
 pub mod Encoded
 pub mod Sizes
@@ -6,3 +7,5 @@ pub mod Decoded
 pub mod Fits
 pub mod Selected
 pub mod Rows
+pub mod Undone
+pub mod Committed

@@ -12,16 +12,17 @@ use Rattle.std.specs.shelf.Lists.{All}
 use Rattle.std.proofs.shelf.Bits.{div-mul-add}
 use Rattle.std.proofs.shelf.Elements.{all-getD, all-from-getD, all-more}
 use Rattle.std.proofs.shelf.Lists.{length-drop, length-take-le, map-more, take-more-set}
-use Rattle.std.proofs.shelf.Tests.{false≢true, and-parts, and-from, eqb-true, leb-true, ltb-true, le-leb, lt-ltb}
+use Rattle.std.proofs.shelf.Tests.{and-parts, and-from, eqb-true, leb-true, ltb-true, le-leb, lt-ltb}
 use Rattle.field.specs.Laws.{Arithmetic, Ring-Laws, width}
 use Rattle.field.proofs.Widths.{width-least}
 use Rattle.coding.specs.declared.shapes.Shape.{Shape}
-use Rattle.coding.specs.Lengths.{board-count, row-length, fragment-length}
+use Rattle.coding.specs.Lengths.{board-count, row-length, block-length, fragment-length}
 use Rattle.coding.specs.Code.{element, Elements, First-overrun, Chosen}
 use Rattle.polynomial.specs.Interpolation.{rising, admitted}
 use Rattle.coding.specs.Decoding.{are-chosen, held, points-of, Sound}
-use Rattle.coding.specs.Shaped.{fragments-length}
+use Rattle.coding.specs.Shaped.{is-block, fragments-length}
 use Rattle.coding.proofs.Pieces.{piece-end}
+use Rattle.coding.proofs.Tried.{one-fails}
 use Rattle.polynomial.proofs.Risen.{rising-from, rising-below, rising-distinct}
 
 -- A list that rises within bounds rises within wider ones.
@@ -101,9 +102,12 @@ module _ (R : Arithmetic) (s : Shape) (fragments : List ℕ) (long : length frag
 
   -- An element that is not a code.
   pub not-sound : (x : List ℕ) (i : ℕ) → x ≡ held R s fragments (getD js m 0) → First-overrun R x (length x / width R) (Some i) → Decides false (Sound R s fragments js)
-  not-sound x i e over = (
-    (λ z. absurd (false≢true z)),
-    (λ sound.
-        let code : element R x i < R .size = subst (λ y. element R y i < R .size) (sym e) (all-getD (λ j. Elements R (held R s fragments j) (s .rows)) js m 0 h sound i (omega (arith, over .0, count x e))) in
-        absurd (omega (arith, over .1))),
-  )
+  not-sound x i e over =
+      one-fails (λ j. Elements R (held R s fragments j) (s .rows)) js m h
+      (λ codes.
+      let code : element R x i < R .size = subst (λ y. element R y i < R .size) (sym e) (codes i (omega (arith, over .0, count x e))) in
+      omega (arith, over .1))
+
+-- The rows of as many bytes as boards are chosen fill the block.
+pub block-long : (s : Shape) (js : List ℕ) → are-chosen s js ≡ true → (block : List ℕ) → is-block s block ≡ true → length block ≡ s .rows * length js
+block-long s js yes! block e = eqb-true (length block) (block-length (s .faults) (s .rows)) e ∙ ap (λ k. s .rows * k) (sym (chosen-many s js yes!))

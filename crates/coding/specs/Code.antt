@@ -6,6 +6,7 @@ use lib.ListN.{length}
 use Rattle.std.specs.declared.option.Option.{Option}
 use Rattle.std.specs.declared.option.Option.the-variants.{Some, None}
 use Rattle.field.specs.Laws.{Arithmetic, width}
+use Rattle.hash.specs.Bytes.{Bytes}
 use Rattle.coding.specs.Pieces.{piece, laid, filled}
 use Rattle.coding.specs.Numbers.{written, number}
 use Rattle.std.specs.shelf.Lists.{All}
@@ -40,10 +41,6 @@ First-overrun R x n None = Elements R x n
 -- The coefficients of q rows, row after row, from the parts of the boards js.
 abbrev pub decoded : Arithmetic → (ℕ → ℕ) → ℕ → List ℕ → (ℕ → List ℕ) → List ℕ
 decoded R inv q js part = laid (λ i. interpolated R inv js (map (λ j. element R (part j) i) js)) q
-
--- A byte string.
-abbrev pub Bytes : List ℕ → Type 0
-Bytes = All (λ b. b < 256)
 
 -- t + 1 different boards.
 pub record Chosen (t : ℕ) (js : List ℕ) : Type 0 where

@@ -16,7 +16,8 @@ use Rattle.coding.specs.declared.shapes.Shape.{Shape}
 use Rattle.coding.specs.Pieces.{piece}
 use Rattle.polynomial.specs.Polynomial.{interpolated}
 use Rattle.coding.specs.Lengths.{board-count, row-length, block-length, fragment-length}
-use Rattle.coding.specs.Code.{element, decoded, Bytes, Elements}
+use Rattle.coding.specs.Code.{element, decoded, Elements}
+use Rattle.hash.specs.Bytes.{Bytes}
 use Rattle.polynomial.specs.Interpolation.{rising, Basis-of}
 use Rattle.coding.specs.Shaped.{is-block, fragments-length, fragment-of}
 
@@ -62,6 +63,11 @@ abbrev pub Decoding-undoes-encoding : Arithmetic → Shape → List ℕ → List
 Decoding-undoes-encoding R s fragments js before r after =
     (block : List ℕ) → Bytes block → length block ≡ block-length (s .faults) (s .rows) → decode-fits R s fragments js before ≡ true →
     All (λ j. held R s fragments j ≡ fragment-of R s block j) js → (r ≡ Ok tt) × (after ≡ block)
+
+-- The whole promise of decoding.
+pub record Decodes (R : Arithmetic) (inv : ℕ → ℕ) (s : Shape) (fragments js before : List ℕ) (r : Result (Unit {0}) Undecodable) (after : List ℕ) : Type 0 where
+  pub is : Decoding R inv s fragments js before r after
+  pub undoes : Decoding-undoes-encoding R s fragments js before r after
 
 -- What the steps of decoding start from: all that was tested, and the basis at the chosen boards.
 pub record Ready (R : Arithmetic) (inv : ℕ → ℕ) (s : Shape) (fragments js : List ℕ) (b : Basis) : Type 0 where

@@ -4,3 +4,4 @@ pub mod Lengths
 pub mod Code
 pub mod Shaped
 pub mod Decoding
+pub mod Commitment

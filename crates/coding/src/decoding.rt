@@ -5,9 +5,10 @@ ghost use mathlib.Core.List.{map};
 ghost use Prim.Native.Nat.{ℕ, _*_, _<_, _≤_};
 ghost use lib.ListN.{length, take};
 ghost use Rattle.std.specs.Orderings.{Decides};
-ghost use Rattle.coding.specs.Code.{element, Bytes};
+ghost use Rattle.coding.specs.Code.{element};
+ghost use Rattle.hash.specs.Bytes.{Bytes};
 ghost use Rattle.polynomial.specs.Polynomial.{interpolated};
-ghost use Rattle.coding.specs.Decoding.{are-chosen, decode-fits, held, points-of, row-coefficients, Sound, coefficients, Decoding, Decoding-undoes-encoding, Ready};
+ghost use Rattle.coding.specs.Decoding.{are-chosen, decode-fits, held, points-of, row-coefficients, Sound, coefficients, Decodes, Ready};
 ghost use Rattle.coding.specs.Lengths.{board-count};
 ghost use Rattle.coding.specs.Shaped.{fragments-length, is-block};
 use crate::elements::number_at;
@@ -41,7 +42,7 @@ impl Shape {
     }
 
     /// The fragment of a board among those of all boards.
-    fn held_by<'a, F: Field>(&self, fragments: &'a [u8], board: u16) -> &'a [u8]
+    pub(crate) fn held_by<'a, F: Field>(&self, fragments: &'a [u8], board: u16) -> &'a [u8]
         requires { ⌜ length (now fragments) ≡ fragments-length arithmetic (now self) ⌝ ∗ ⌜ 1 ≤ board ⌝ ∗ ⌜ board ≤ board-count (now self .faults) ⌝ }
         ensures { λ r. ⌜ now r ≡ held arithmetic (now (self .entry)) (now (fragments .entry)) board ⌝ }
     {
@@ -86,5 +87,84 @@ impl Shape {
     {
         let points = self.points::<F>(fragments, boards, i);
         basis.interpolate::<F>(&points[0..boards.len()]).unwrap()
+    }
+
+    /// Whether every coefficient of every row is a byte.
+    fn readable<F: Field>(&self, basis: &Basis, fragments: &[u8], boards: &[u16]) -> bool
+        requires { ⌜ Ready arithmetic inverted (now self) (now fragments) (now boards) (now basis) ⌝ }
+        ensures { λ r. ⌜ Decides r (Bytes (coefficients arithmetic inverted (now (self .entry)) (now (fragments .entry)) (now (boards .entry)))) ⌝ }
+    {
+        for i in 0..self.rows() {
+            let row = self.row::<F>(basis, fragments, boards, i);
+            if !are_bytes(&row[0..boards.len()]) {
+                return false;
+            }
+        }
+        true
+    }
+
+    /// Writes the coefficients of every row, which are bytes, as a block.
+    fn write_rows<F: Field>(
+        &self,
+        basis: &Basis,
+        fragments: &[u8],
+        boards: &[u16],
+        block: &mut [u8],
+    )
+        requires { ⌜ Ready arithmetic inverted (now self) (now fragments) (now boards) (now basis) ⌝ }
+        requires { ⌜ Bytes (coefficients arithmetic inverted (now self) (now fragments) (now boards)) ⌝ ∗ ⌜ is-block (now self) (now block) ≡ true ⌝ }
+        ensures { λ _. ⌜ now (block .exit) ≡ coefficients arithmetic inverted (now (self .entry)) (now (fragments .entry)) (now (boards .entry)) ⌝ }
+    {
+        let count = boards.len();
+        for i in 0..self.rows() {
+            let row = self.row::<F>(basis, fragments, boards, i);
+            let from = i * count;
+            write_bytes(&row[0..count], &mut block[from..from + count]);
+        }
+    }
+
+    /// Decodes a block from the fragments of t + 1 boards, given in rising order; `fragments` holds a fragment for each board, and those of other boards are not looked at.
+    pub fn decode<F: Field>(
+        &self,
+        fragments: &[u8],
+        boards: &[u16],
+        block: &mut [u8],
+    ) -> Result<(), Undecodable>
+        ensures { λ r. ⌜ Decodes arithmetic inverted (now (self .entry)) (now (fragments .entry)) (now (boards .entry)) (now (block .entry)) r (now (block .exit)) ⌝ }
+    {
+        if !self.fits_decoding::<F>(fragments, boards, block) {
+            return Err(Undecodable::Unfit);
+        }
+        if !self.holds_codes::<F>(fragments, boards) {
+            return Err(Undecodable::Overrun);
+        }
+        let basis = Basis::new::<F>(boards).unwrap();
+        if !self.readable::<F>(&basis, fragments, boards) {
+            return Err(Undecodable::Unreadable);
+        }
+        self.write_rows::<F>(&basis, fragments, boards, block);
+        Ok(())
+    }
+}
+
+/// Whether the codes are bytes.
+fn are_bytes(codes: &[u16]) -> bool
+    ensures { λ r. ⌜ Decides r (Bytes (now (codes .entry))) ⌝ }
+{
+    for code in codes {
+        if *code > 255 {
+            return false;
+        }
+    }
+    true
+}
+
+/// Writes codes that are bytes.
+fn write_bytes(codes: &[u16], part: &mut [u8])
+    requires { ⌜ Bytes (now codes) ⌝ ∗ ⌜ length (now part) ≡ length (now codes) ⌝ }
+    ensures { λ _. ⌜ now (part .exit) ≡ now (codes .entry) ⌝ }
+{
+    for i in 0..codes.len() {
+        part[i] = codes[i] as u8;
     }
 }

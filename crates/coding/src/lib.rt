@@ -1,9 +1,11 @@
 //! The Reed-Solomon code over any field: how a block becomes one fragment for each board, and how any t + 1 of them give it back.
+mod commitment;
 mod decoding;
 mod elements;
 mod encoding;
 mod shapes;
 
+pub use commitment::digest_of;
 pub use decoding::Undecodable;
 pub use elements::overrun;
 pub use elements::read_element;

@@ -1,12 +1,7 @@
-use mathlib.Core.Path.{_≡_, refl, sym, ap, subst, _∙_}
-use Prim.Native.Nat.{ℕ, _<_}
-use native.Mathlib.Omega.{arith}
-use lib.ListN.{length, getD, take}
-use Rattle.std.proofs.shelf.Elements.{all-getD, all-more}
-use Rattle.std.proofs.shelf.Lists.{take-all}
 use Rattle.coding.specs.Code.{Elements}
-use Rattle.coding.specs.Decoding.{held, Sound}
+use Rattle.coding.specs.Decoding.{held}
 use Rattle.coding.proofs.Selected.{chosen-at, sound-at, not-sound}
+use Rattle.coding.proofs.Tried.{all-pass}
 use Rattle.coding.proofs.shapes.Shape.holds_codes.Needs as need
 
 pub held-by-requires : need.held-by-requires
@@ -24,6 +19,5 @@ loop-board-again g c =
 
 pub returns : need.returns
 returns g c =
-    let R = g .F·Field .arithmetic in
-    let all = take-all (c .loop-board .board-index) (c .args .boards .now) (c .loop-board-test .left) in
-    ((λ _. subst (λ js. Sound R (c .args .self .now) (c .args .fragments .now) js) all (c .loop-board .inv)), (λ _. refl))
+    all-pass (λ j. Elements (g .F·Field .arithmetic) (held (g .F·Field .arithmetic) (c .args .self .now) (c .args .fragments .now) j) (c .args .self .now .rows))
+    (c .args .boards .now) (c .loop-board .board-index) (c .loop-board-test .left) (c .loop-board .inv)

@@ -1,0 +1,5 @@
+mod Blocks
+mod Columns
+mod Digests
+mod Padding
+mod Steps
