@@ -6,10 +6,10 @@ use lib.ListN.{length, getD, drop}
 use Rattle.std.proofs.shelf.Elements.{all-take, all-drop, all-from-getD}
 use Rattle.field.specs.Laws.{Arithmetic, width}
 use Rattle.hash.specs.Bytes.{Bytes, Digest}
-use Rattle.coding.specs.declared.shapes.Shape.{Shape}
+use Rattle.shape.specs.declared.Shape.{Shape}
 use Rattle.coding.specs.Commitment.{fragment-digest}
 use Rattle.coding.specs.Decoding.{held}
-use Rattle.coding.specs.Lengths.{fragment-length}
+use Rattle.shape.specs.Lengths.{fragment-length}
 
 pub entry-long : (hash : List ℕ → List ℕ) → ((m : List ℕ) → Bytes m → Digest (hash m)) → (R : Arithmetic) (s : Shape) (fragments : List ℕ) → ((i : ℕ) → getD fragments i 0 < 256) →
     (j : ℕ) → length (fragment-digest hash j (held R s fragments j)) ≡ 32

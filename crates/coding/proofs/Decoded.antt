@@ -11,7 +11,7 @@ use Rattle.field.specs.Laws.{Arithmetic, Ring-Laws, Field-Laws, width}
 use Rattle.coding.specs.Pieces.{piece, laid, filled}
 use Rattle.coding.specs.Numbers.{written, number}
 use Rattle.polynomial.specs.Polynomial.{Codes, Distinct, eval, values, interpolated}
-use Rattle.coding.specs.Lengths.{board-count, row-length, vector-length, share-rows}
+use Rattle.shape.specs.Lengths.{board-count, row-length, vector-length, share-rows}
 use Rattle.coding.specs.Code.{coded, share, element, decoded, Chosen, Shares-fix-vectors}
 use Rattle.hash.specs.Bytes.{Bytes}
 use Rattle.polynomial.proofs.Evaluation.{eval-code, zeros-codes}

@@ -7,8 +7,8 @@ use lib.Dec.{eqb, leb}
 use lib.ListN.{length}
 use Rattle.std.proofs.shelf.Tests.{and-parts, and-from, leb-true, eqb-true, le-leb, eq-eqb}
 use Rattle.field.specs.Laws.{Arithmetic, width}
-use Rattle.coding.specs.declared.shapes.Shape.{Shape}
-use Rattle.coding.specs.Lengths.{is-board, board-count, block-length, fragment-length}
+use Rattle.shape.specs.declared.Shape.{Shape}
+use Rattle.shape.specs.Lengths.{is-board, board-count, block-length, fragment-length}
 use Rattle.coding.specs.Shaped.{is-block, fragment-fits}
 
 pub board-bounds : (t j : ℕ) → is-board t j ≡ true → (1 ≤ j) × (j ≤ board-count t)

@@ -16,7 +16,7 @@ use Rattle.field.specs.Laws.{Arithmetic, Ring-Laws}
 use Rattle.polynomial.specs.declared.interpolation.Basis.{Basis}
 use Rattle.polynomial.specs.Polynomial.{Codes, Distinct, interpolated}
 use Rattle.polynomial.specs.Interpolation.{admitted, codes-of, values-of, Basis-of, Solves}
-use Rattle.coding.specs.declared.shapes.Shape.{Shape}
+use Rattle.shape.specs.declared.Shape.{Shape}
 use Rattle.coding.specs.Pieces.{laid}
 use Rattle.coding.specs.Code.{element, decoded, Elements}
 use Rattle.hash.specs.Bytes.{Bytes}

@@ -15,8 +15,8 @@ use Rattle.std.proofs.shelf.Lists.{length-drop, length-take-le, map-more, take-
 use Rattle.std.proofs.shelf.Tests.{and-parts, and-from, eqb-true, leb-true, ltb-true, le-leb, lt-ltb}
 use Rattle.field.specs.Laws.{Arithmetic, Ring-Laws, width}
 use Rattle.field.proofs.Widths.{width-least}
-use Rattle.coding.specs.declared.shapes.Shape.{Shape}
-use Rattle.coding.specs.Lengths.{board-count, row-length, block-length, fragment-length}
+use Rattle.shape.specs.declared.Shape.{Shape}
+use Rattle.shape.specs.Lengths.{board-count, row-length, block-length, fragment-length}
 use Rattle.coding.specs.Code.{element, Elements, First-overrun, Chosen}
 use Rattle.polynomial.specs.Interpolation.{rising, admitted}
 use Rattle.coding.specs.Decoding.{are-chosen, held, points-of, Sound}

@@ -9,7 +9,7 @@ use Rattle.std.proofs.shelf.Bits.{div-add-mod'}
 use Rattle.std.proofs.shelf.Elements.{all-weaker}
 use Rattle.field.specs.Laws.{Arithmetic, Ring-Laws}
 use Rattle.polynomial.specs.Polynomial.{Codes}
-use Rattle.coding.specs.Lengths.{board-count, row-length, vector-length, share-rows}
+use Rattle.shape.specs.Lengths.{board-count, row-length, vector-length, share-rows}
 use Rattle.coding.proofs.Pieces.{piece-end}
 
 module _ (t : ℕ) where

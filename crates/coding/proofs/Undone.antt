@@ -19,9 +19,9 @@ use Rattle.polynomial.specs.Interpolation.{admitted, Basis-of}
 use Rattle.polynomial.proofs.Evaluation.{eval-code}
 use Rattle.coding.specs.declared.decoding.Undecodable.{Undecodable}
 use Rattle.coding.specs.declared.decoding.Undecodable.the-variants.{Unfit, Overrun, Unreadable}
-use Rattle.coding.specs.declared.shapes.Shape.{Shape}
+use Rattle.shape.specs.declared.Shape.{Shape}
 use Rattle.coding.specs.Pieces.{piece}
-use Rattle.coding.specs.Lengths.{row-length, block-length}
+use Rattle.shape.specs.Lengths.{row-length, block-length}
 use Rattle.coding.specs.Code.{element, Elements}
 use Rattle.hash.specs.Bytes.{Bytes}
 use Rattle.coding.specs.Decoding.{are-chosen, decode-fits, held, Sound, coefficients, Decoding, Decoding-undoes-encoding, Decodes, Ready}

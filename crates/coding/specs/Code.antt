@@ -11,7 +11,7 @@ use Rattle.coding.specs.Pieces.{piece, laid, filled}
 use Rattle.coding.specs.Numbers.{written, number}
 use Rattle.std.specs.shelf.Lists.{All}
 use Rattle.polynomial.specs.Polynomial.{Codes, Distinct, eval, interpolated}
-use Rattle.coding.specs.Lengths.{board-count, row-length, vector-length, share-rows}
+use Rattle.shape.specs.Lengths.{board-count, row-length, vector-length, share-rows}
 
 -- The values at the code j of the first q rows of k bytes of xs, each written as an element.
 abbrev pub coded : Arithmetic → ℕ → ℕ → List ℕ → ℕ → List ℕ

@@ -5,9 +5,9 @@ use Prim.Native.Nat.{ℕ, _+_, _-_}
 use lib.Dec.{eqb}
 use lib.ListN.{length}
 use Rattle.field.specs.Laws.{Arithmetic}
-use Rattle.coding.specs.declared.shapes.Shape.{Shape}
+use Rattle.shape.specs.declared.Shape.{Shape}
 use Rattle.coding.specs.Pieces.{piece, laid}
-use Rattle.coding.specs.Lengths.{board-count, vector-length}
+use Rattle.shape.specs.Lengths.{board-count, vector-length}
 use Rattle.coding.specs.Decoding.{held}
 use Rattle.coding.specs.Shaped.{fragments-length}
 

@@ -12,10 +12,10 @@ use Rattle.field.specs.Laws.{Arithmetic, width}
 use Rattle.coding.specs.declared.decoding.Undecodable.{Undecodable}
 use Rattle.coding.specs.declared.decoding.Undecodable.the-variants.{Unfit, Overrun, Unreadable}
 use Rattle.polynomial.specs.declared.interpolation.Basis.{Basis}
-use Rattle.coding.specs.declared.shapes.Shape.{Shape}
+use Rattle.shape.specs.declared.Shape.{Shape}
 use Rattle.coding.specs.Pieces.{piece}
 use Rattle.polynomial.specs.Polynomial.{interpolated}
-use Rattle.coding.specs.Lengths.{board-count, row-length, block-length, fragment-length}
+use Rattle.shape.specs.Lengths.{board-count, row-length, block-length, fragment-length}
 use Rattle.coding.specs.Code.{element, decoded, Elements}
 use Rattle.hash.specs.Bytes.{Bytes}
 use Rattle.polynomial.specs.Interpolation.{rising, Basis-of}

@@ -1,6 +1,5 @@
 pub mod Pieces
 pub mod Numbers
-pub mod Lengths
 pub mod Code
 pub mod Shaped
 pub mod Decoding

@@ -5,9 +5,9 @@ use Prim.Native.Nat.{ℕ, _+_, _-_, _*_}
 use lib.Dec.{leb, eqb}
 use lib.ListN.{length}
 use Rattle.field.specs.Laws.{Arithmetic, width}
-use Rattle.coding.specs.declared.shapes.Shape.{Shape}
+use Rattle.shape.specs.declared.Shape.{Shape}
 use Rattle.coding.specs.Pieces.{piece, laid}
-use Rattle.coding.specs.Lengths.{is-board, board-count, block-length, fragment-length, vector-length, share-length}
+use Rattle.shape.specs.Lengths.{is-board, board-count, block-length, fragment-length, vector-length, share-length}
 use Rattle.coding.specs.Code.{fragment, share}
 
 -- The block has K bytes.

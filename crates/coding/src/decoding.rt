@@ -9,14 +9,14 @@ ghost use Rattle.coding.specs.Code.{element};
 ghost use Rattle.hash.specs.Bytes.{Bytes};
 ghost use Rattle.polynomial.specs.Polynomial.{interpolated};
 ghost use Rattle.coding.specs.Decoding.{are-chosen, decode-fits, held, points-of, row-coefficients, Sound, coefficients, Decodes, Ready};
-ghost use Rattle.coding.specs.Lengths.{board-count};
+ghost use Rattle.shape.specs.Lengths.{board-count};
 ghost use Rattle.coding.specs.Shaped.{fragments-length, is-block};
 use crate::elements::number_at;
 use crate::elements::overrun;
-use crate::shapes::Shape;
 use field::Field;
 use polynomial::Basis;
 use polynomial::rising;
+use shape::Shape;
 
 /// Why fragments do not decode to a block.
 #[derive(Clone, Copy, PartialEq, Eq, Debug, Drop)]
@@ -29,122 +29,126 @@ pub enum Undecodable {
     Unreadable,
 }
 
-impl Shape {
-    /// Whether there are fragments of all boards, `boards` are t + 1 in rising order, and a block has `length` bytes.
-    fn fits_decoding<F: Field>(&self, fragments: &[u8], boards: &[u16], block: &[u8]) -> bool
-        ensures { λ r. ⌜ r ≡ decode-fits arithmetic (now (self .entry)) (now (fragments .entry)) (now (boards .entry)) (now (block .entry)) ⌝ }
-    {
-        let count = self.boards();
-        fragments.len() == count * self.fragment_bytes::<F>()
-            && boards.len() == self.row_bytes()
-            && rising(boards, 1, count as u32 + 1)
-            && block.len() == self.block_bytes()
-    }
+/// Whether there are fragments of all boards, `boards` are t + 1 in rising order, and a block has `length` bytes.
+fn fits_decoding<F: Field>(shape: Shape, fragments: &[u8], boards: &[u16], block: &[u8]) -> bool
+    ensures { λ r. ⌜ r ≡ decode-fits arithmetic shape (now (fragments .entry)) (now (boards .entry)) (now (block .entry)) ⌝ }
+{
+    let count = shape.boards();
+    fragments.len() == count * shape.fragment_bytes::<F>()
+        && boards.len() == shape.row_bytes()
+        && rising(boards, 1, count as u32 + 1)
+        && block.len() == shape.block_bytes()
+}
 
-    /// The fragment of a board among those of all boards.
-    pub(crate) fn held_by<'a, F: Field>(&self, fragments: &'a [u8], board: u16) -> &'a [u8]
-        requires { ⌜ length (now fragments) ≡ fragments-length arithmetic (now self) ⌝ ∗ ⌜ 1 ≤ board ⌝ ∗ ⌜ board ≤ board-count (now self .faults) ⌝ }
-        ensures { λ r. ⌜ now r ≡ held arithmetic (now (self .entry)) (now (fragments .entry)) board ⌝ }
-    {
-        let size = self.fragment_bytes::<F>();
-        let from = (board as usize - 1) * size;
-        &fragments[from..from + size]
-    }
+/// The fragment of a board among those of all boards.
+pub(crate) fn held_by<'a, F: Field>(shape: Shape, fragments: &'a [u8], board: u16) -> &'a [u8]
+    requires { ⌜ length (now fragments) ≡ fragments-length arithmetic shape ⌝ ∗ ⌜ 1 ≤ board ⌝ ∗ ⌜ board ≤ board-count (shape .faults) ⌝ }
+    ensures { λ r. ⌜ now r ≡ held arithmetic shape (now (fragments .entry)) board ⌝ }
+{
+    let size = shape.fragment_bytes::<F>();
+    let from = (board as usize - 1) * size;
+    &fragments[from..from + size]
+}
 
-    /// Whether the elements of the chosen boards' fragments are codes.
-    fn holds_codes<F: Field>(&self, fragments: &[u8], boards: &[u16]) -> bool
-        requires { ⌜ length (now fragments) ≡ fragments-length arithmetic (now self) ⌝ ∗ ⌜ are-chosen (now self) (now boards) ≡ true ⌝ }
-        ensures { λ r. ⌜ Decides r (Sound arithmetic (now (self .entry)) (now (fragments .entry)) (now (boards .entry))) ⌝ }
-    {
-        for board in boards {
-            if let Some(_) = overrun::<F>(self.held_by::<F>(fragments, *board)) {
-                return false;
-            }
-        }
-        true
-    }
-
-    /// The points of row `i`: each chosen board's number, and the value that its fragment has there.
-    fn points<F: Field>(&self, fragments: &[u8], boards: &[u16], i: usize) -> [(u16, u16); 6]
-        requires { ⌜ length (now fragments) ≡ fragments-length arithmetic (now self) ⌝ ∗ ⌜ are-chosen (now self) (now boards) ≡ true ⌝ ∗ ⌜ i < now self .rows ⌝ }
-        ensures { λ r. ⌜ take (length (now (boards .entry))) r ≡ points-of arithmetic (now (self .entry)) (now (fragments .entry)) (now (boards .entry)) i ⌝ }
-    {
-        let mut points = [(0, 0); 6];
-        for k in 0..boards.len() {
-            let board = boards[k];
-            points[k] = (
-                board,
-                number_at::<F>(self.held_by::<F>(fragments, board), i),
-            );
-        }
-        points
-    }
-
-    /// The coefficients of row `i`, in the first places.
-    fn row<F: Field>(&self, basis: &Basis, fragments: &[u8], boards: &[u16], i: usize) -> [u16; 6]
-        requires { ⌜ Ready arithmetic inverted (now self) (now fragments) (now boards) (now basis) ⌝ ∗ ⌜ i < now self .rows ⌝ }
-        ensures { λ r. ⌜ take (length (now (boards .entry))) r ≡ row-coefficients arithmetic inverted (now (self .entry)) (now (fragments .entry)) (now (boards .entry)) i ⌝ }
-    {
-        let points = self.points::<F>(fragments, boards, i);
-        basis.interpolate::<F>(&points[0..boards.len()]).unwrap()
-    }
-
-    /// Whether every coefficient of every row is a byte.
-    fn readable<F: Field>(&self, basis: &Basis, fragments: &[u8], boards: &[u16]) -> bool
-        requires { ⌜ Ready arithmetic inverted (now self) (now fragments) (now boards) (now basis) ⌝ }
-        ensures { λ r. ⌜ Decides r (Bytes (coefficients arithmetic inverted (now (self .entry)) (now (fragments .entry)) (now (boards .entry)))) ⌝ }
-    {
-        for i in 0..self.rows() {
-            let row = self.row::<F>(basis, fragments, boards, i);
-            if !are_bytes(&row[0..boards.len()]) {
-                return false;
-            }
-        }
-        true
-    }
-
-    /// Writes the coefficients of every row, which are bytes, as a block.
-    fn write_rows<F: Field>(
-        &self,
-        basis: &Basis,
-        fragments: &[u8],
-        boards: &[u16],
-        block: &mut [u8],
-    )
-        requires { ⌜ Ready arithmetic inverted (now self) (now fragments) (now boards) (now basis) ⌝ }
-        requires { ⌜ Bytes (coefficients arithmetic inverted (now self) (now fragments) (now boards)) ⌝ ∗ ⌜ is-block (now self) (now block) ≡ true ⌝ }
-        ensures { λ _. ⌜ now (block .exit) ≡ coefficients arithmetic inverted (now (self .entry)) (now (fragments .entry)) (now (boards .entry)) ⌝ }
-    {
-        let count = boards.len();
-        for i in 0..self.rows() {
-            let row = self.row::<F>(basis, fragments, boards, i);
-            let from = i * count;
-            write_bytes(&row[0..count], &mut block[from..from + count]);
+/// Whether the elements of the chosen boards' fragments are codes.
+fn holds_codes<F: Field>(shape: Shape, fragments: &[u8], boards: &[u16]) -> bool
+    requires { ⌜ length (now fragments) ≡ fragments-length arithmetic shape ⌝ ∗ ⌜ are-chosen shape (now boards) ≡ true ⌝ }
+    ensures { λ r. ⌜ Decides r (Sound arithmetic shape (now (fragments .entry)) (now (boards .entry))) ⌝ }
+{
+    for board in boards {
+        if let Some(_) = overrun::<F>(held_by::<F>(shape, fragments, *board)) {
+            return false;
         }
     }
+    true
+}
 
-    /// Decodes a block from the fragments of t + 1 boards, given in rising order; `fragments` holds a fragment for each board, and those of other boards are not looked at.
-    pub fn decode<F: Field>(
-        &self,
-        fragments: &[u8],
-        boards: &[u16],
-        block: &mut [u8],
-    ) -> Result<(), Undecodable>
-        ensures { λ r. ⌜ Decodes arithmetic inverted (now (self .entry)) (now (fragments .entry)) (now (boards .entry)) (now (block .entry)) r (now (block .exit)) ⌝ }
-    {
-        if !self.fits_decoding::<F>(fragments, boards, block) {
-            return Err(Undecodable::Unfit);
-        }
-        if !self.holds_codes::<F>(fragments, boards) {
-            return Err(Undecodable::Overrun);
-        }
-        let basis = Basis::new::<F>(boards).unwrap();
-        if !self.readable::<F>(&basis, fragments, boards) {
-            return Err(Undecodable::Unreadable);
-        }
-        self.write_rows::<F>(&basis, fragments, boards, block);
-        Ok(())
+/// The points of row `i`: each chosen board's number, and the value that its fragment has there.
+fn points<F: Field>(shape: Shape, fragments: &[u8], boards: &[u16], i: usize) -> [(u16, u16); 6]
+    requires { ⌜ length (now fragments) ≡ fragments-length arithmetic shape ⌝ ∗ ⌜ are-chosen shape (now boards) ≡ true ⌝ ∗ ⌜ i < shape .rows ⌝ }
+    ensures { λ r. ⌜ take (length (now (boards .entry))) r ≡ points-of arithmetic shape (now (fragments .entry)) (now (boards .entry)) i ⌝ }
+{
+    let mut points = [(0, 0); 6];
+    for k in 0..boards.len() {
+        let board = boards[k];
+        points[k] = (
+            board,
+            number_at::<F>(held_by::<F>(shape, fragments, board), i),
+        );
     }
+    points
+}
+
+/// The coefficients of row `i`, in the first places.
+fn row<F: Field>(
+    shape: Shape,
+    basis: &Basis,
+    fragments: &[u8],
+    boards: &[u16],
+    i: usize,
+) -> [u16; 6]
+    requires { ⌜ Ready arithmetic inverted shape (now fragments) (now boards) (now basis) ⌝ ∗ ⌜ i < shape .rows ⌝ }
+    ensures { λ r. ⌜ take (length (now (boards .entry))) r ≡ row-coefficients arithmetic inverted shape (now (fragments .entry)) (now (boards .entry)) i ⌝ }
+{
+    let points = points::<F>(shape, fragments, boards, i);
+    basis.interpolate::<F>(&points[0..boards.len()]).unwrap()
+}
+
+/// Whether every coefficient of every row is a byte.
+fn readable<F: Field>(shape: Shape, basis: &Basis, fragments: &[u8], boards: &[u16]) -> bool
+    requires { ⌜ Ready arithmetic inverted shape (now fragments) (now boards) (now basis) ⌝ }
+    ensures { λ r. ⌜ Decides r (Bytes (coefficients arithmetic inverted shape (now (fragments .entry)) (now (boards .entry)))) ⌝ }
+{
+    for i in 0..shape.rows {
+        let row = row::<F>(shape, basis, fragments, boards, i);
+        if !are_bytes(&row[0..boards.len()]) {
+            return false;
+        }
+    }
+    true
+}
+
+/// Writes the coefficients of every row, which are bytes, as a block.
+fn write_rows<F: Field>(
+    shape: Shape,
+    basis: &Basis,
+    fragments: &[u8],
+    boards: &[u16],
+    block: &mut [u8],
+)
+    requires { ⌜ Ready arithmetic inverted shape (now fragments) (now boards) (now basis) ⌝ }
+    requires { ⌜ Bytes (coefficients arithmetic inverted shape (now fragments) (now boards)) ⌝ ∗ ⌜ is-block shape (now block) ≡ true ⌝ }
+    ensures { λ _. ⌜ now (block .exit) ≡ coefficients arithmetic inverted shape (now (fragments .entry)) (now (boards .entry)) ⌝ }
+{
+    let count = boards.len();
+    for i in 0..shape.rows {
+        let row = row::<F>(shape, basis, fragments, boards, i);
+        let from = i * count;
+        write_bytes(&row[0..count], &mut block[from..from + count]);
+    }
+}
+
+/// Decodes a block from the fragments of t + 1 boards, given in rising order; `fragments` holds a fragment for each board, and those of other boards are not looked at.
+pub fn decode<F: Field>(
+    shape: Shape,
+    fragments: &[u8],
+    boards: &[u16],
+    block: &mut [u8],
+) -> Result<(), Undecodable>
+    ensures { λ r. ⌜ Decodes arithmetic inverted shape (now (fragments .entry)) (now (boards .entry)) (now (block .entry)) r (now (block .exit)) ⌝ }
+{
+    if !fits_decoding::<F>(shape, fragments, boards, block) {
+        return Err(Undecodable::Unfit);
+    }
+    if !holds_codes::<F>(shape, fragments, boards) {
+        return Err(Undecodable::Overrun);
+    }
+    let basis = Basis::new::<F>(boards).unwrap();
+    if !readable::<F>(shape, &basis, fragments, boards) {
+        return Err(Undecodable::Unreadable);
+    }
+    write_rows::<F>(shape, &basis, fragments, boards, block);
+    Ok(())
 }
 
 /// Whether the codes are bytes.

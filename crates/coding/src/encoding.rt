@@ -9,9 +9,9 @@ ghost use Rattle.coding.specs.Pieces.{filled};
 ghost use Rattle.coding.specs.Code.{coded, Shares-fix-vectors};
 ghost use Rattle.coding.specs.Shaped.{fragment-fits, share-fits, fragments-fit, fragment-of, share-of, fragments-of, fragments-length};
 use crate::elements::put_number;
-use crate::shapes::Shape;
 use field::Field;
 use polynomial::value_at;
+use shape::Shape;
 
 /// Writes, for each of `rows` rows of `k` bytes of the source, its value at `code`. Bytes past the source's end count as zeros.
 fn encode_rows<F: Field>(k: usize, rows: usize, source: &[u8], code: u16, part: &mut [u8])
@@ -26,61 +26,59 @@ fn encode_rows<F: Field>(k: usize, rows: usize, source: &[u8], code: u16, part: 
     }
 }
 
-impl Shape {
-    /// Writes a board's fragment of a block into its part.
-    fn write_fragment<F: Field>(&self, block: &[u8], board: u16, part: &mut [u8])
-        requires { ⌜ fragment-fits arithmetic (now self) (now block) board (now part) ≡ true ⌝ }
-        ensures { λ _. ⌜ now (part .exit) ≡ fragment-of arithmetic (now (self .entry)) (now (block .entry)) board ⌝ }
-    {
-        encode_rows::<F>(self.row_bytes(), self.rows(), block, board, part);
-    }
+/// Writes a board's fragment of a block into its part.
+fn write_fragment<F: Field>(shape: Shape, block: &[u8], board: u16, part: &mut [u8])
+    requires { ⌜ fragment-fits arithmetic shape (now block) board (now part) ≡ true ⌝ }
+    ensures { λ _. ⌜ now (part .exit) ≡ fragment-of arithmetic shape (now (block .entry)) board ⌝ }
+{
+    encode_rows::<F>(shape.row_bytes(), shape.rows, block, board, part);
+}
 
-    /// Writes a board's fragment of a block into its part. False, with the part as found, where there is no such board or a length does not fit.
-    pub fn encode_fragment<F: Field>(&self, block: &[u8], board: u16, part: &mut [u8]) -> bool
-        ensures answer { λ r. ⌜ r ≡ fragment-fits arithmetic (now (self .entry)) (now (block .entry)) board (now (part .entry)) ⌝ }
-        ensures part { λ r. ⌜ now (part .exit) ≡ cond r (fragment-of arithmetic (now (self .entry)) (now (block .entry)) board) (now (part .entry)) ⌝ }
-    {
-        if board < 1 || board as usize > self.boards() {
-            return false;
-        }
-        if block.len() != self.block_bytes() || part.len() != self.fragment_bytes::<F>() {
-            return false;
-        }
-        self.write_fragment::<F>(block, board, part);
-        true
+/// Writes a board's fragment of a block into its part. False, with the part as found, where there is no such board or a length does not fit.
+pub fn encode_fragment<F: Field>(shape: Shape, block: &[u8], board: u16, part: &mut [u8]) -> bool
+    ensures answer { λ r. ⌜ r ≡ fragment-fits arithmetic shape (now (block .entry)) board (now (part .entry)) ⌝ }
+    ensures part { λ r. ⌜ now (part .exit) ≡ cond r (fragment-of arithmetic shape (now (block .entry)) board) (now (part .entry)) ⌝ }
+{
+    if board < 1 || board as usize > shape.boards() {
+        return false;
     }
+    if block.len() != shape.block_bytes() || part.len() != shape.fragment_bytes::<F>() {
+        return false;
+    }
+    write_fragment::<F>(shape, block, board, part);
+    true
+}
 
-    /// Writes a board's share of a commitment vector into its part. False, with the part as found, where there is no such board or a length does not fit.
-    pub fn encode_share<F: Field>(&self, vector: &[u8], board: u16, part: &mut [u8]) -> bool
-        ensures answer { λ r. ⌜ r ≡ share-fits arithmetic (now (self .entry)) (now (vector .entry)) board (now (part .entry)) ⌝ }
-        ensures part { λ r. ⌜ now (part .exit) ≡ cond r (share-of arithmetic (now (self .entry)) (now (vector .entry)) board) (now (part .entry)) ⌝ }
-        ensures fixes { λ _. ⌜ Shares-fix-vectors arithmetic (now (self .entry) .faults) ⌝ }
-    {
-        if board < 1 || board as usize > self.boards() {
-            return false;
-        }
-        if vector.len() != self.vector_bytes() || part.len() != self.share_bytes::<F>() {
-            return false;
-        }
-        encode_rows::<F>(self.row_bytes(), self.share_rows(), vector, board, part);
-        true
+/// Writes a board's share of a commitment vector into its part. False, with the part as found, where there is no such board or a length does not fit.
+pub fn encode_share<F: Field>(shape: Shape, vector: &[u8], board: u16, part: &mut [u8]) -> bool
+    ensures answer { λ r. ⌜ r ≡ share-fits arithmetic shape (now (vector .entry)) board (now (part .entry)) ⌝ }
+    ensures part { λ r. ⌜ now (part .exit) ≡ cond r (share-of arithmetic shape (now (vector .entry)) board) (now (part .entry)) ⌝ }
+    ensures fixes { λ _. ⌜ Shares-fix-vectors arithmetic (shape .faults) ⌝ }
+{
+    if board < 1 || board as usize > shape.boards() {
+        return false;
     }
+    if vector.len() != shape.vector_bytes() || part.len() != shape.share_bytes::<F>() {
+        return false;
+    }
+    encode_rows::<F>(shape.row_bytes(), shape.share_rows(), vector, board, part);
+    true
+}
 
-    /// Writes every board's fragment of a block straight into its own part of the front of `memory`, board 1's first. False, with the memory as found, where a length does not fit.
-    pub fn encode_fragments<F: Field>(&self, block: &[u8], memory: &mut [u8]) -> bool
-        ensures answer { λ r. ⌜ r ≡ fragments-fit arithmetic (now (self .entry)) (now (block .entry)) (now (memory .entry)) ⌝ }
-        ensures memory { λ r. ⌜ now (memory .exit) ≡ cond r (fragments-of arithmetic (now (self .entry)) (now (block .entry)) ++ drop (fragments-length arithmetic (now (self .entry))) (now (memory .entry))) (now (memory .entry)) ⌝ }
-    {
-        let size = self.fragment_bytes::<F>();
-        let count = self.boards();
-        if block.len() != self.block_bytes() || memory.len() < count * size {
-            return false;
-        }
-        for i in 0..count {
-            let from = i * size;
-            let part = &mut memory[from..from + size];
-            self.write_fragment::<F>(block, i as u16 + 1, part);
-        }
-        true
+/// Writes every board's fragment of a block straight into its own part of the front of `memory`, board 1's first. False, with the memory as found, where a length does not fit.
+pub fn encode_fragments<F: Field>(shape: Shape, block: &[u8], memory: &mut [u8]) -> bool
+    ensures answer { λ r. ⌜ r ≡ fragments-fit arithmetic shape (now (block .entry)) (now (memory .entry)) ⌝ }
+    ensures memory { λ r. ⌜ now (memory .exit) ≡ cond r (fragments-of arithmetic shape (now (block .entry)) ++ drop (fragments-length arithmetic shape) (now (memory .entry))) (now (memory .entry)) ⌝ }
+{
+    let size = shape.fragment_bytes::<F>();
+    let count = shape.boards();
+    if block.len() != shape.block_bytes() || memory.len() < count * size {
+        return false;
     }
+    for i in 0..count {
+        let from = i * size;
+        let part = &mut memory[from..from + size];
+        write_fragment::<F>(shape, block, i as u16 + 1, part);
+    }
+    true
 }

@@ -3,11 +3,14 @@ mod commitment;
 mod decoding;
 mod elements;
 mod encoding;
-mod shapes;
 
+pub use commitment::commit;
 pub use commitment::digest_of;
 pub use decoding::Undecodable;
+pub use decoding::decode;
 pub use elements::overrun;
 pub use elements::read_element;
 pub use elements::write_element;
-pub use shapes::Shape;
+pub use encoding::encode_fragment;
+pub use encoding::encode_fragments;
+pub use encoding::encode_share;
