@@ -7,6 +7,8 @@ mod encoding;
 pub use commitment::commit;
 pub use commitment::digest_of;
 pub use decoding::Undecodable;
+pub use decoding::UndecodableDebug;
+pub use decoding::UndecodablePartialEq;
 pub use decoding::decode;
 pub use elements::overrun;
 pub use elements::read_element;

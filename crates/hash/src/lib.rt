@@ -7,8 +7,6 @@ ghost use Rattle.hash.specs.Fold.{folded};
 ghost use Rattle.hash.specs.Sha256.{sha256};
 
 mod sha2;
-#[cfg(test)]
-mod tests;
 mod xor;
 
 /// A hash function; generic code takes it as a parameter `D`, since clauses reserve `H` and `A`.

@@ -1,9 +1,9 @@
 //! Published and hand-worked values of the two fields.
-use crate::Field;
-use crate::Field256;
-use crate::Field256Field;
-use crate::Field257;
-use crate::Field257Field;
+use field::Field;
+use field::Field256;
+use field::Field256Field;
+use field::Field257;
+use field::Field257Field;
 use std::test::*;
 
 /// The sum and the products of 0x57 are those that FIPS 197 works out.

@@ -1,9 +1,9 @@
 // Vectors from outside: the examples of FIPS 180-4, and digests by other implementations at the lengths where the padding turns.
-use crate::Fold;
-use crate::FoldHash;
-use crate::Hash;
-use crate::Sha256;
-use crate::Sha256Hash;
+use hash::Fold;
+use hash::FoldHash;
+use hash::Hash;
+use hash::Sha256;
+use hash::Sha256Hash;
 use std::test::*;
 
 /// A message, and its digest in hexadecimal digits.
