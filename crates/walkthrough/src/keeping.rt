@@ -1,0 +1,149 @@
+// What the boards keep of a design.
+ghost use mathlib.Core.Path.{_≡_};
+ghost use mathlib.Core.List.{_++_};
+ghost use Prim.Native.Nat.{_-_, _<_, _≤_};
+ghost use lib.ListN.{length, take, replicate};
+ghost use Rattle.std.specs.Of.Vec.{vec-items};
+ghost use Rattle.std.specs.Orderings.{Decides};
+ghost use Rattle.std.specs.Vec.{made};
+ghost use Rattle.coding.specs.Commitment.{fragment-digest};
+ghost use Rattle.coding.specs.Pieces.{piece};
+use crate::choices::Sorted;
+use crate::shown::first;
+use coding::commit;
+use coding::digest_of;
+use coding::encode_fragments;
+use coding::encode_share;
+use field::Field;
+use hash::Hash;
+use shape::Shape;
+use std::alloc::AllocError;
+use std::alloc::Global;
+use std::error::AnyError;
+
+/// The lengths of a round, as its shape answers them.
+#[derive(Clone, Copy)]
+pub(crate) struct Sizes {
+    pub(crate) boards: u16,
+    pub(crate) rows: usize,
+    pub(crate) row: usize,
+    pub(crate) block: usize,
+    pub(crate) fragment: usize,
+    pub(crate) vector: usize,
+    pub(crate) share_rows: usize,
+    pub(crate) share: usize,
+    ghost range: { (boards ≤ 16) × (0 < fragment) × (fragment ≤ 1024) },
+}
+
+impl Sizes {
+    /// The lengths of a shape over a field.
+    pub(crate) fn of<F: Field>(shape: Shape) -> Sizes {
+        Sizes {
+            boards: shape.boards() as u16,
+            rows: shape.rows,
+            row: shape.row_bytes(),
+            block: shape.block_bytes(),
+            fragment: shape.fragment_bytes::<F>(),
+            vector: shape.vector_bytes(),
+            share_rows: shape.share_rows(),
+            share: shape.share_bytes::<F>(),
+        }
+    }
+}
+
+/// What the boards keep of one design.
+#[derive(Drop)]
+pub(crate) struct Kept {
+    pub(crate) shape: Shape,
+    pub(crate) sizes: Sizes,
+    /// The fragments of all boards, board 1's first.
+    pub(crate) fragments: Vec<u8>,
+    pub(crate) vector: Vec<u8>,
+    /// Board 1's share of the vector.
+    pub(crate) share: Vec<u8>,
+}
+
+/// The design, filled up with zero bytes to `size` bytes.
+fn fill_up(heap: Global, design: &[u8], size: usize) -> Result<Vec<u8>, AllocError>
+    ensures { λ r. ⌜ made r (λ b. vec-items b ≡ take size (now (design .entry)) ++ replicate (size - length (now (design .entry))) 0) ⌝ }
+{
+    let mut block = Vec::from_slice(heap, design)?;
+    block.resize(size, 0)?;
+    Ok(block)
+}
+
+/// Gives each board its fragment and its share of the vector.
+pub(crate) fn keep<F: Field, D: Hash>(
+    heap: Global,
+    shape: Shape,
+    design: &[u8],
+) -> Result<Kept, AnyError> {
+    let sizes = Sizes::of::<F>(shape);
+    let block = fill_up(heap, design, sizes.block)?;
+    let mut fragments = vec![in heap; 0; usize::from(sizes.boards) * sizes.fragment]?;
+    let mut vector = vec![in heap; 0; sizes.vector]?;
+    let mut share = vec![in heap; 0; sizes.share]?;
+    if !encode_fragments::<F>(shape, block.as_slice(), fragments.as_mut_slice()) {
+        return Err("the block was not cut into fragments".into());
+    }
+    if !commit::<F, D>(shape, fragments.as_slice(), vector.as_mut_slice()) {
+        return Err("the fragments got no vector".into());
+    }
+    if !encode_share::<F>(shape, vector.as_slice(), 1, share.as_mut_slice()) {
+        return Err("the vector was not cut into shares".into());
+    }
+    Ok(Kept {
+        shape,
+        sizes,
+        fragments,
+        vector,
+        share,
+    })
+}
+
+/// Whether a fragment's digest is its board's entry of the vector.
+fn matches<D: Hash>(entry: &[u8], board: u16, fragment: &[u8]) -> bool
+    ensures { λ r. ⌜ Decides r (now (entry .entry) ≡ fragment-digest hashes board (now (fragment .entry))) ⌝ }
+{
+    entry == digest_of::<D>(board, fragment)
+}
+
+/// The part of a board among parts of one size, board 1's first; nothing where it has none.
+fn part(parts: &[u8], size: usize, board: u16) -> &[u8]
+    requires { ⌜ size ≤ 1024 ⌝ }
+    ensures { λ r. ⌜ now r ≡ piece size (now (parts .entry)) (board - 1) ⌝ }
+{
+    let from = usize::from(board).saturating_sub(1) * size;
+    first(&parts[parts.len().min(from)..], size)
+}
+
+impl Kept {
+    /// A board's fragment.
+    pub(crate) fn fragment(&self, board: u16) -> &[u8] {
+        part(self.fragments.as_slice(), self.sizes.fragment, board)
+    }
+
+    /// A board's entry of the vector.
+    pub(crate) fn entry(&self, board: u16) -> &[u8] {
+        part(self.vector.as_slice(), 32, board)
+    }
+
+    /// Sorts the boards by whether their fragments are good.
+    pub(crate) fn examine<D: Hash>(&self, heap: Global) -> Result<Sorted, AllocError> {
+        let fragments = self.fragments.as_slice().chunks(self.sizes.fragment);
+        let entries = self.vector.as_slice().chunks(32);
+        let mut sorted = Sorted::new(heap);
+        for (board, (fragment, entry)) in (1..=self.sizes.boards).zip(fragments.zip(entries)) {
+            sorted.put(board, matches::<D>(entry, board, fragment))?;
+        }
+        Ok(sorted)
+    }
+
+    /// Turns every bit of the first byte of a board's fragment.
+    pub(crate) fn damage(&mut self, board: u16) {
+        let at = usize::from(board).saturating_sub(1) * self.sizes.fragment;
+        if let Some(byte) = self.fragments.get_mut(at) {
+            *byte = !*byte;
+        }
+    }
+}

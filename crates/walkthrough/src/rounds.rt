@@ -1,0 +1,119 @@
+// One round: a design is kept, fetched without some boards, and fetched with a damaged fragment.
+use crate::choices::Away;
+use crate::choices::present;
+use crate::choices::rows_for;
+use crate::fetching::fetch;
+use crate::keeping::Kept;
+use crate::keeping::keep;
+use crate::telling::Account;
+use crate::telling::tell_damage;
+use crate::telling::tell_fetch;
+use crate::telling::tell_fragments;
+use crate::telling::tell_sizes;
+use coding::digest_of;
+use field::Field;
+use hash::Fold;
+use hash::Hash;
+use hash::Sha256;
+use shape::Shape;
+use std::error::AnyError;
+
+/// A hash function that has a name.
+pub(crate) trait Named {
+    /// The name.
+    fn name() -> &'static str;
+}
+
+pub(crate) impl Named for Sha256 as Sha256Named {
+    fn name() -> &'static str {
+        "SHA-256"
+    }
+}
+
+pub(crate) impl Named for Fold as FoldNamed {
+    fn name() -> &'static str {
+        "Fold"
+    }
+}
+
+/// What a round does.
+#[derive(Clone, Copy)]
+pub(crate) struct Round {
+    pub(crate) number: u8,
+    /// How many boards may be missing or broken.
+    pub(crate) faults: u8,
+    pub(crate) away: Away,
+    /// The board whose fragment is damaged.
+    pub(crate) damaged: u16,
+    pub(crate) account: Account,
+}
+
+/// Fetches the design while t boards are away, and says whether it came back.
+fn tell_absence<F: Field>(
+    rt: &LibcRuntime,
+    round: &Round,
+    kept: &Kept,
+    design: &[u8],
+) -> Result<bool, AnyError> {
+    let heap = rt.alloc();
+    let boards = present(heap, round.away, kept.shape.faults, kept.sizes.boards)?;
+    let fetched = fetch::<F>(heap, kept, boards, design)?;
+    if let Account::Full = round.account {
+        println!(
+            rt,
+            "  Some boards are taken away. Any t + 1 of the others do: the lowest are used."
+        )?;
+    }
+    tell_fetch(rt, "taken away", &fetched)?;
+    Ok(fetched.equal)
+}
+
+/// Damages a fragment, fetches the design from boards whose fragments are good, and says whether it came back.
+fn tell_repair<F: Field, D: Hash>(
+    rt: &LibcRuntime,
+    round: &Round,
+    mut kept: Kept,
+    design: &[u8],
+) -> Result<bool, AnyError> {
+    let heap = rt.alloc();
+    kept.damage(round.damaged);
+    let digest = digest_of::<D>(round.damaged, kept.fragment(round.damaged));
+    tell_damage(rt, round.account, round.damaged, &kept, &digest)?;
+    let boards = kept.examine::<D>(heap)?;
+    let fetched = fetch::<F>(heap, &kept, boards, design)?;
+    tell_fetch(rt, "left out  ", &fetched)?;
+    Ok(fetched.equal)
+}
+
+/// Tells a round over a field and a hash, and says whether the design came back each time.
+pub(crate) fn tell_round<F: Field, D: Hash + Named>(
+    rt: &LibcRuntime,
+    round: &Round,
+    design: &[u8],
+) -> Result<bool, AnyError> {
+    println!(rt)?;
+    println!(
+        rt,
+        "Round {} of 8: t = {}, field {}, hash {}",
+        round.number,
+        round.faults,
+        F::order(),
+        D::name()
+    )?;
+    let row = usize::from(round.faults) + 1;
+    let rows = rows_for(design.len(), row);
+    let Some(shape) = Shape::new(usize::from(round.faults), rows) else {
+        println!(
+            rt,
+            "    refused     {} bytes are {rows} rows of {row} bytes, and a block has at most 512 rows",
+            design.len()
+        )?;
+        return Ok(false);
+    };
+    let kept = keep::<F, D>(rt.alloc(), shape, design)?;
+    tell_sizes(rt, round.account, &kept.sizes, design.len())?;
+    tell_fragments(rt, round.account, &kept)?;
+    let fetched = tell_absence::<F>(rt, round, &kept, design)?;
+    let repaired = tell_repair::<F, D>(rt, round, kept, design)?;
+    Ok(fetched && repaired)
+}
