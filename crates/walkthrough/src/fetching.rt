@@ -35,8 +35,8 @@ pub(crate) fn fetch<F: Field>(
         usable: mut used,
         left_out,
     } = boards;
-    used.truncate(kept.sizes.row);
-    let mut block = vec![in heap; 0; kept.sizes.block]?;
+    used.truncate(kept.shape.row_bytes());
+    let mut block = vec![in heap; 0; kept.shape.block_bytes()]?;
     let answer = decode::<F>(
         kept.shape,
         kept.fragments.as_slice(),

@@ -21,46 +21,18 @@ use std::alloc::AllocError;
 use std::alloc::Global;
 use std::error::AnyError;
 
-/// The lengths of a round, as its shape answers them.
-#[derive(Clone, Copy)]
-pub(crate) struct Sizes {
-    pub(crate) boards: u16,
-    pub(crate) rows: usize,
-    pub(crate) row: usize,
-    pub(crate) block: usize,
-    pub(crate) fragment: usize,
-    pub(crate) vector: usize,
-    pub(crate) share_rows: usize,
-    pub(crate) share: usize,
-    ghost range: { (boards ≤ 16) × (0 < fragment) × (fragment ≤ 1024) },
-}
-
-impl Sizes {
-    /// The lengths of a shape over a field.
-    pub(crate) fn of<F: Field>(shape: Shape) -> Sizes {
-        Sizes {
-            boards: shape.boards() as u16,
-            rows: shape.rows,
-            row: shape.row_bytes(),
-            block: shape.block_bytes(),
-            fragment: shape.fragment_bytes::<F>(),
-            vector: shape.vector_bytes(),
-            share_rows: shape.share_rows(),
-            share: shape.share_bytes::<F>(),
-        }
-    }
-}
-
 /// What the boards keep of one design.
 #[derive(Drop)]
 pub(crate) struct Kept {
     pub(crate) shape: Shape,
-    pub(crate) sizes: Sizes,
+    /// The bytes of a fragment.
+    pub(crate) size: usize,
     /// The fragments of all boards, board 1's first.
     pub(crate) fragments: Vec<u8>,
     pub(crate) vector: Vec<u8>,
     /// Board 1's share of the vector.
     pub(crate) share: Vec<u8>,
+    ghost range: { (0 < size) × (size ≤ 1024) },
 }
 
 /// The design, filled up with zero bytes to `size` bytes.
@@ -78,11 +50,11 @@ pub(crate) fn keep<F: Field, D: Hash>(
     shape: Shape,
     design: &[u8],
 ) -> Result<Kept, AnyError> {
-    let sizes = Sizes::of::<F>(shape);
-    let block = fill_up(heap, design, sizes.block)?;
-    let mut fragments = vec![in heap; 0; usize::from(sizes.boards) * sizes.fragment]?;
-    let mut vector = vec![in heap; 0; sizes.vector]?;
-    let mut share = vec![in heap; 0; sizes.share]?;
+    let size = shape.fragment_bytes::<F>();
+    let block = fill_up(heap, design, shape.block_bytes())?;
+    let mut fragments = vec![in heap; 0; shape.boards() * size]?;
+    let mut vector = vec![in heap; 0; shape.vector_bytes()]?;
+    let mut share = vec![in heap; 0; shape.share_bytes::<F>()]?;
     if !encode_fragments::<F>(shape, block.as_slice(), fragments.as_mut_slice()) {
         return Err("the block was not cut into fragments".into());
     }
@@ -94,7 +66,7 @@ pub(crate) fn keep<F: Field, D: Hash>(
     }
     Ok(Kept {
         shape,
-        sizes,
+        size,
         fragments,
         vector,
         share,
@@ -120,7 +92,7 @@ fn part(parts: &[u8], size: usize, board: u16) -> &[u8]
 impl Kept {
     /// A board's fragment.
     pub(crate) fn fragment(&self, board: u16) -> &[u8] {
-        part(self.fragments.as_slice(), self.sizes.fragment, board)
+        part(self.fragments.as_slice(), self.size, board)
     }
 
     /// A board's entry of the vector.
@@ -130,10 +102,12 @@ impl Kept {
 
     /// Sorts the boards by whether their fragments are good.
     pub(crate) fn examine<D: Hash>(&self, heap: Global) -> Result<Sorted, AllocError> {
-        let fragments = self.fragments.as_slice().chunks(self.sizes.fragment);
+        let fragments = self.fragments.as_slice().chunks(self.size);
         let entries = self.vector.as_slice().chunks(32);
         let mut sorted = Sorted::new(heap);
-        for (board, (fragment, entry)) in (1..=self.sizes.boards).zip(fragments.zip(entries)) {
+        for (board, (fragment, entry)) in (1..=self.shape.boards() as u16).zip(fragments.zip(
+            entries,
+        )) {
             sorted.put(board, matches::<D>(entry, board, fragment))?;
         }
         Ok(sorted)
@@ -141,7 +115,7 @@ impl Kept {
 
     /// Turns every bit of the first byte of a board's fragment.
     pub(crate) fn damage(&mut self, board: u16) {
-        let at = usize::from(board).saturating_sub(1) * self.sizes.fragment;
+        let at = usize::from(board).saturating_sub(1) * self.size;
         if let Some(byte) = self.fragments.get_mut(at) {
             *byte = !*byte;
         }

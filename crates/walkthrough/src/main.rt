@@ -20,15 +20,10 @@ use rounds::FoldNamed;
 use rounds::Round;
 use rounds::Sha256Named;
 use rounds::tell_round;
-use shown::Hex;
-use shown::HexDisplay;
-use shown::Text;
-use shown::TextDisplay;
-use shown::first;
 use std::error::AnyError;
 use std::io;
 use std::io::Read;
-use telling::Account;
+use telling::tell_design;
 
 /// The rounds, in which other boards are away and another fragment is damaged each time.
 const ROUNDS: [Round; 8] = [
@@ -37,56 +32,56 @@ const ROUNDS: [Round; 8] = [
         faults: 1,
         away: Away::Lowest,
         damaged: 2,
-        account: Account::Full,
+        shown: 32,
     },
     Round {
         number: 2,
         faults: 1,
         away: Away::Highest,
         damaged: 1,
-        account: Account::Brief,
+        shown: 8,
     },
     Round {
         number: 3,
         faults: 1,
         away: Away::Middle,
         damaged: 4,
-        account: Account::Brief,
+        shown: 8,
     },
     Round {
         number: 4,
         faults: 1,
         away: Away::EveryThird,
         damaged: 3,
-        account: Account::Brief,
+        shown: 8,
     },
     Round {
         number: 5,
         faults: 2,
         away: Away::Lowest,
         damaged: 3,
-        account: Account::Brief,
+        shown: 8,
     },
     Round {
         number: 6,
         faults: 2,
         away: Away::Highest,
         damaged: 1,
-        account: Account::Brief,
+        shown: 8,
     },
     Round {
         number: 7,
         faults: 2,
         away: Away::Middle,
         damaged: 7,
-        account: Account::Brief,
+        shown: 8,
     },
     Round {
         number: 8,
         faults: 2,
         away: Away::EveryThird,
         damaged: 2,
-        account: Account::Brief,
+        shown: 8,
     },
 ];
 
@@ -98,63 +93,34 @@ fn read_design(rt: &LibcRuntime) -> io::Result<Vec<u8>> {
     Ok(design)
 }
 
+/// What the words and letters mean that the rounds use.
+const WORDS: &str = "
+Bytes are written in hexadecimal, two digits each. Text has a dot for what cannot be printed.
+
+  board     one of the n keepers of a design
+  t         how many boards may be missing or broken; n is 3t + 1
+  row       t + 1 bytes of the design, one after another; there are R rows
+  block     the design, filled up with zero bytes to whole rows: K bytes
+  fragment  what one board keeps of the block: a number for each row, S bytes in all
+  field     the numbers to reckon with: 256 of them, of one byte, or 257, of two bytes
+  digest    32 bytes that a hash makes of a fragment, to tell it from any other
+  hash      SHA-256, or Fold: the exclusive or of all pieces of 32 bytes
+  vector    the digests of all fragments, V bytes; a fragment is good if its digest is its entry there
+  share     what one board keeps of the vector, made of Q rows as a fragment is: G bytes
+
+Each round cuts the design into rows and gives every board its fragment. Beside the first bytes of
+each fragment stands its digest, whole in the first round, and in the others its first 8 bytes.
+Then t boards are taken away, and the t + 1 lowest of the others give the design back.
+Then all boards are back, and the first byte of one fragment is turned. Its digest is no longer its
+entry of the vector, so that board is left out, and the t + 1 lowest of the others are used.";
+
 /// Tells what the design is, and what the words mean that the rounds use.
 fn tell_words(rt: &LibcRuntime, design: &[u8]) -> io::Result<()> {
-    let begins = first(design, 12);
-    println!(
-        rt,
-        "How boards keep a design, and how some of them give it back"
-    )?;
-    println!(rt)?;
-    println!(
-        rt,
-        "The design has {} bytes. It begins {} \"{}\".",
-        design.len(),
-        Hex(begins),
-        Text(begins)
-    )?;
-    println!(
-        rt,
-        "Bytes are written in hexadecimal, two digits each. Text has a dot for what cannot be printed."
-    )?;
-    println!(rt)?;
-    println!(rt, "  board     one of the n keepers of a design")?;
-    println!(
-        rt,
-        "  t         how many boards may be missing or broken; n is 3t + 1"
-    )?;
-    println!(
-        rt,
-        "  row       t + 1 bytes of the design, one after another"
-    )?;
-    println!(
-        rt,
-        "  block     the design, filled up with zero bytes to whole rows"
-    )?;
-    println!(
-        rt,
-        "  fragment  what one board keeps of the block: a number for each row"
-    )?;
-    println!(
-        rt,
-        "  field     the numbers to reckon with: 256 of them, of one byte, or 257, of two bytes"
-    )?;
-    println!(
-        rt,
-        "  digest    32 bytes that a hash makes of a fragment, to tell it from any other"
-    )?;
-    println!(
-        rt,
-        "  hash      SHA-256, or Fold: the exclusive or of all pieces of 32 bytes"
-    )?;
-    println!(
-        rt,
-        "  vector    the digests of all fragments; a fragment is good if its digest is its entry there"
-    )?;
-    println!(
-        rt,
-        "  share     what one board keeps of the vector, made as a fragment is made of the block"
-    )
+    rt.println("How boards keep a design, and how some of them give it back")?;
+    rt.println("")?;
+    tell_design(rt, "The design has ", design)?;
+    rt.println("")?;
+    rt.println(WORDS)
 }
 
 /// Tells the rounds, with each field and each hash in turn, and says of each whether the design came back.
@@ -176,10 +142,9 @@ fn run(rt: &LibcRuntime) -> Result<(), AnyError> {
     let design = read_design(rt)?;
     tell_words(rt, design.as_slice())?;
     let answers = tell_rounds(rt, design.as_slice())?;
-    println!(rt)?;
     println!(
         rt,
-        "{} of {} rounds gave the design back",
+        "\n{} of {} rounds gave the design back",
         yes_count(&answers),
         answers.len()
     )?;

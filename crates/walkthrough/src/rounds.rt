@@ -5,7 +5,6 @@ use crate::choices::rows_for;
 use crate::fetching::fetch;
 use crate::keeping::Kept;
 use crate::keeping::keep;
-use crate::telling::Account;
 use crate::telling::tell_damage;
 use crate::telling::tell_fetch;
 use crate::telling::tell_fragments;
@@ -45,7 +44,8 @@ pub(crate) struct Round {
     pub(crate) away: Away,
     /// The board whose fragment is damaged.
     pub(crate) damaged: u16,
-    pub(crate) account: Account,
+    /// How many bytes of a digest are shown.
+    pub(crate) shown: usize,
 }
 
 /// Fetches the design while t boards are away, and says whether it came back.
@@ -56,15 +56,14 @@ fn tell_absence<F: Field>(
     design: &[u8],
 ) -> Result<bool, AnyError> {
     let heap = rt.alloc();
-    let boards = present(heap, round.away, kept.shape.faults, kept.sizes.boards)?;
+    let boards = present(
+        heap,
+        round.away,
+        kept.shape.faults,
+        kept.shape.boards() as u16,
+    )?;
     let fetched = fetch::<F>(heap, kept, boards, design)?;
-    if let Account::Full = round.account {
-        println!(
-            rt,
-            "  Some boards are taken away. Any t + 1 of the others do: the lowest are used."
-        )?;
-    }
-    tell_fetch(rt, "taken away", &fetched)?;
+    tell_fetch(rt, "    taken away ", &fetched)?;
     Ok(fetched.equal)
 }
 
@@ -78,11 +77,30 @@ fn tell_repair<F: Field, D: Hash>(
     let heap = rt.alloc();
     kept.damage(round.damaged);
     let digest = digest_of::<D>(round.damaged, kept.fragment(round.damaged));
-    tell_damage(rt, round.account, round.damaged, &kept, &digest)?;
+    tell_damage(
+        rt,
+        round.shown,
+        round.damaged,
+        kept.fragment(round.damaged),
+        &digest,
+    )?;
     let boards = kept.examine::<D>(heap)?;
     let fetched = fetch::<F>(heap, &kept, boards, design)?;
-    tell_fetch(rt, "left out  ", &fetched)?;
+    tell_fetch(rt, "    left out   ", &fetched)?;
     Ok(fetched.equal)
+}
+
+/// The lengths of a shape over a field: boards, rows, block, fragment, vector, share rows and share.
+fn lengths_of<F: Field>(shape: Shape) -> [usize; 7] {
+    [
+        shape.boards(),
+        shape.rows,
+        shape.block_bytes(),
+        shape.fragment_bytes::<F>(),
+        shape.vector_bytes(),
+        shape.share_rows(),
+        shape.share_bytes::<F>(),
+    ]
 }
 
 /// Tells a round over a field and a hash, and says whether the design came back each time.
@@ -91,10 +109,9 @@ pub(crate) fn tell_round<F: Field, D: Hash + Named>(
     round: &Round,
     design: &[u8],
 ) -> Result<bool, AnyError> {
-    println!(rt)?;
     println!(
         rt,
-        "Round {} of 8: t = {}, field {}, hash {}",
+        "\nRound {} of 8: t = {}, field {}, hash {}",
         round.number,
         round.faults,
         F::order(),
@@ -111,8 +128,12 @@ pub(crate) fn tell_round<F: Field, D: Hash + Named>(
         return Ok(false);
     };
     let kept = keep::<F, D>(rt.alloc(), shape, design)?;
-    tell_sizes(rt, round.account, &kept.sizes, design.len())?;
-    tell_fragments(rt, round.account, &kept)?;
+    tell_sizes(
+        rt,
+        &lengths_of::<F>(shape),
+        shape.block_bytes().saturating_sub(design.len()),
+    )?;
+    tell_fragments(rt, round.shown, &kept)?;
     let fetched = tell_absence::<F>(rt, round, &kept, design)?;
     let repaired = tell_repair::<F, D>(rt, round, kept, design)?;
     Ok(fetched && repaired)
