@@ -8,16 +8,17 @@ use Rattle.std.specs.shelf.Lists.{All}
 use Rattle.std.proofs.shelf.Elements.{all-take, all-drop, all-append, all-weaker}
 use Rattle.std.proofs.shelf.Lists.{length-append, length-replicate, length-drop, length-take-le, take-at}
 use Rattle.field.specs.Laws.{Arithmetic, Ring-Laws, Field-Laws, width}
-use Rattle.coding.specs.Pieces.{piece, laid, filled}
-use Rattle.coding.specs.Numbers.{written, number}
+use Rattle.elements.specs.Pieces.{piece, laid, filled}
+use Rattle.elements.specs.Numbers.{written, number}
 use Rattle.polynomial.specs.Polynomial.{Codes, Distinct, eval, values, interpolated}
 use Rattle.shape.specs.Lengths.{board-count, row-length, vector-length, share-rows}
-use Rattle.coding.specs.Code.{coded, share, element, decoded, Chosen, Shares-fix-vectors}
+use Rattle.elements.specs.Element.{element}
+use Rattle.coding.specs.Code.{coded, share, decoded, Chosen, Shares-fix-vectors}
 use Rattle.hash.specs.Bytes.{Bytes}
 use Rattle.polynomial.proofs.Evaluation.{eval-code, zeros-codes}
 use Rattle.polynomial.proofs.Newton.{interpolated-values}
-use Rattle.coding.proofs.Pieces.{piece-end, piece-laid, laid-same, laid-whole}
-use Rattle.coding.proofs.Written.{written-length, number-written}
+use Rattle.elements.proofs.Pieces.{piece-end, piece-laid, laid-same, laid-whole}
+use Rattle.elements.proofs.Written.{written-length, number-written}
 use Rattle.coding.proofs.Sizes.{share-rows-enough, boards-codes}
 
 -- The element i of what board j holds is the value of row i.

@@ -2,21 +2,25 @@
 use mathlib.Core.Path.{_≡_, refl, sym, ap, ap₂, _∙_}
 use mathlib.Core.List.{List, [], _∷_, _++_}
 use mathlib.Core.Logic.{⊎-elim}
-use Prim.Native.Nat.{ℕ, zero, suc, _+_, _-_, _*_, _<_, _≤_}
+use mathlib.Core.Bool.{Bool, cond, _&&_}
+use lib.Dec.{ltb}
+use Prim.Native.Nat.{ℕ, zero, suc, _+_, _-_, _*_, _/_, _<_, _≤_}
 use native.Mathlib.Nat.{zero-mul, add-mul, one-mul}
 use native.Mathlib.Omega.{arith}
 use lib.ListN.{length, take, drop, replicate}
 use lib.Seq.{take-append-add}
 use Rattle.std.proofs.shelf.Lists.{length-drop, length-take-le, length-append, take-all, take-append-le, take-at, drop-append-le, take-replicate, append-nil, append-assoc}
-use Rattle.std.proofs.shelf.Tests.{cases-lt}
+use Rattle.std.proofs.shelf.Bits.{div-mul-add}
+use Rattle.std.proofs.shelf.Tests.{cases-lt, and-from, lt-ltb, cond-true}
+use Rattle.field.proofs.Widths.{width-least}
 use Rattle.field.specs.Laws.{Arithmetic, Ring-Laws, width}
-use Rattle.coding.specs.Pieces.{piece, laid, filled, put}
-use Rattle.coding.specs.Numbers.{written}
+use Rattle.elements.specs.Pieces.{piece, laid, filled, put}
+use Rattle.elements.specs.Numbers.{written}
 use Rattle.polynomial.specs.Polynomial.{eval}
 use Rattle.coding.specs.Code.{coded}
 use Rattle.polynomial.proofs.Evaluation.{eval-filled}
-use Rattle.coding.proofs.Pieces.{laid-none, laid-more, length-laid}
-use Rattle.coding.proofs.Written.{written-length}
+use Rattle.elements.proofs.Pieces.{laid-none, laid-more, length-laid}
+use Rattle.elements.proofs.Written.{written-length}
 
 -- A list that is cut at n, or ends before: what is filled up with zeros and cut there begins with it.
 take-filled : (n : ℕ) (xs : List ℕ) (z : ℕ) → n ≤ length xs + z → (m : ℕ) × (take n (xs ++ replicate z 0) ≡ take n xs ++ replicate m 0)
@@ -73,3 +77,13 @@ filled-whole n xs h = let z : n - length xs ≡ 0 = omega arith in ap (λ k. xs 
 
 pub coded-length : (R : Arithmetic) (k q : ℕ) (xs : List ℕ) (j : ℕ) → length (coded R k q xs j) ≡ q * width R
 coded-length R k q xs j = length-laid (λ i. written (width R) (eval R (piece k xs i) j)) (width R) q (λ i h. written-length (width R) (eval R (piece k xs i) j))
+
+-- A code is written at a place that the part has.
+pub element-put : (R : Arithmetic) (rows i v : ℕ) (part now : List ℕ) (r : Bool) → length part ≡ rows * width R → i < rows → v < R .size →
+    r ≡ (ltb i (length part / width R) && ltb v (R .size)) → now ≡ cond r (put part (i * width R) (written (width R) v)) part → now ≡ put part (i * width R) (written (width R) v)
+element-put R rows i v part now r long h code answer is =
+    let w = width-least R in
+    let e : length part ≡ rows * width R + 0 = omega arith in
+    let n : length part / width R ≡ rows = ap (λ n. n / width R) e ∙ div-mul-add rows (width R) 0 (omega arith) in
+    is ∙ cond-true r (put part (i * width R) (written (width R) v)) part
+    (answer ∙ and-from (ltb i (length part / width R)) (ltb v (R .size)) (lt-ltb i (length part / width R) (omega arith)) (lt-ltb v (R .size) code))

@@ -1,6 +1,4 @@
-pub mod Pieces
 pub mod Tried
-pub mod Written
 pub mod Encoded
 pub mod Sizes
 pub mod Decoded

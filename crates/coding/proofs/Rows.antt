@@ -17,12 +17,13 @@ use Rattle.polynomial.specs.declared.interpolation.Basis.{Basis}
 use Rattle.polynomial.specs.Polynomial.{Codes, Distinct, interpolated}
 use Rattle.polynomial.specs.Interpolation.{admitted, codes-of, values-of, Basis-of, Solves}
 use Rattle.shape.specs.declared.Shape.{Shape}
-use Rattle.coding.specs.Pieces.{laid}
-use Rattle.coding.specs.Code.{element, decoded, Elements}
+use Rattle.elements.specs.Pieces.{laid}
+use Rattle.elements.specs.Element.{element, Elements}
+use Rattle.coding.specs.Code.{decoded}
 use Rattle.hash.specs.Bytes.{Bytes}
 use Rattle.coding.specs.Decoding.{held, points-of, row-coefficients, coefficients, Sound, Ready}
 use Rattle.polynomial.proofs.Newton.{interpolated-length}
-use Rattle.coding.proofs.Pieces.{laid-none, laid-more, piece-laid}
+use Rattle.elements.proofs.Pieces.{laid-none, laid-more, piece-laid}
 use Rattle.coding.proofs.Selected.{chosen}
 use Rattle.coding.proofs.Sizes.{boards-codes}
 

@@ -17,11 +17,12 @@ use Rattle.field.specs.Laws.{Arithmetic, Ring-Laws, width}
 use Rattle.field.proofs.Widths.{width-least}
 use Rattle.shape.specs.declared.Shape.{Shape}
 use Rattle.shape.specs.Lengths.{board-count, row-length, block-length, fragment-length}
-use Rattle.coding.specs.Code.{element, Elements, First-overrun, Chosen}
+use Rattle.elements.specs.Element.{element, Elements, First-overrun}
+use Rattle.coding.specs.Code.{Chosen}
 use Rattle.polynomial.specs.Interpolation.{rising, admitted}
 use Rattle.coding.specs.Decoding.{are-chosen, held, points-of, Sound}
 use Rattle.coding.specs.Shaped.{is-block, fragments-length}
-use Rattle.coding.proofs.Pieces.{piece-end}
+use Rattle.elements.proofs.Pieces.{piece-end}
 use Rattle.coding.proofs.Tried.{one-fails}
 use Rattle.polynomial.proofs.Risen.{rising-from, rising-below, rising-distinct}
 

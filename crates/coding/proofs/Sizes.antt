@@ -10,7 +10,7 @@ use Rattle.std.proofs.shelf.Elements.{all-weaker}
 use Rattle.field.specs.Laws.{Arithmetic, Ring-Laws}
 use Rattle.polynomial.specs.Polynomial.{Codes}
 use Rattle.shape.specs.Lengths.{board-count, row-length, vector-length, share-rows}
-use Rattle.coding.proofs.Pieces.{piece-end}
+use Rattle.elements.proofs.Pieces.{piece-end}
 
 module _ (t : ℕ) where
   whole : share-rows t * row-length t + (vector-length t + t) % row-length t ≡ vector-length t + t

@@ -20,9 +20,9 @@ use Rattle.polynomial.proofs.Evaluation.{eval-code}
 use Rattle.coding.specs.declared.decoding.Undecodable.{Undecodable}
 use Rattle.coding.specs.declared.decoding.Undecodable.the-variants.{Unfit, Overrun, Unreadable}
 use Rattle.shape.specs.declared.Shape.{Shape}
-use Rattle.coding.specs.Pieces.{piece}
+use Rattle.elements.specs.Pieces.{piece}
 use Rattle.shape.specs.Lengths.{row-length, block-length}
-use Rattle.coding.specs.Code.{element, Elements}
+use Rattle.elements.specs.Element.{element, Elements}
 use Rattle.hash.specs.Bytes.{Bytes}
 use Rattle.coding.specs.Decoding.{are-chosen, decode-fits, held, Sound, coefficients, Decoding, Decoding-undoes-encoding, Decodes, Ready}
 use Rattle.coding.specs.Shaped.{is-block, fragments-length, fragment-of}

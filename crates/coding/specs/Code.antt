@@ -7,8 +7,9 @@ use Rattle.std.specs.declared.option.Option.{Option}
 use Rattle.std.specs.declared.option.Option.the-variants.{Some, None}
 use Rattle.field.specs.Laws.{Arithmetic, width}
 use Rattle.hash.specs.Bytes.{Bytes}
-use Rattle.coding.specs.Pieces.{piece, laid, filled}
-use Rattle.coding.specs.Numbers.{written, number}
+use Rattle.elements.specs.Pieces.{piece, laid, filled}
+use Rattle.elements.specs.Numbers.{written}
+use Rattle.elements.specs.Element.{element}
 use Rattle.std.specs.shelf.Lists.{All}
 use Rattle.polynomial.specs.Polynomial.{Codes, Distinct, eval, interpolated}
 use Rattle.shape.specs.Lengths.{board-count, row-length, vector-length, share-rows}
@@ -24,19 +25,6 @@ fragment R t r block j = coded R (row-length t) r block j
 -- The share of board j of a vector, which is filled up with zero bytes to whole rows.
 abbrev pub share : Arithmetic → ℕ → List ℕ → ℕ → List ℕ
 share R t vector j = coded R (row-length t) (share-rows t) (filled (share-rows t * row-length t) vector) j
-
--- The element i of a fragment or a share, as the number that its bytes write.
-abbrev pub element : Arithmetic → List ℕ → ℕ → ℕ
-element R x i = number (piece (width R) x i)
-
--- The first n elements of a part are codes.
-abbrev pub Elements : Arithmetic → List ℕ → ℕ → Type 0
-Elements R x n = (i : ℕ) → i < n → element R x i < R .size
-
--- The first of n elements that is not a code.
-abbrev pub First-overrun : Arithmetic → List ℕ → ℕ → Option ℕ → Type 0
-First-overrun R x n (Some i) = (i < n) × (R .size ≤ element R x i) × Elements R x i
-First-overrun R x n None = Elements R x n
 
 -- The coefficients of q rows, row after row, from the parts of the boards js.
 abbrev pub decoded : Arithmetic → (ℕ → ℕ) → ℕ → List ℕ → (ℕ → List ℕ) → List ℕ

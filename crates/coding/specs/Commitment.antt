@@ -6,7 +6,7 @@ use lib.Dec.{eqb}
 use lib.ListN.{length}
 use Rattle.field.specs.Laws.{Arithmetic}
 use Rattle.shape.specs.declared.Shape.{Shape}
-use Rattle.coding.specs.Pieces.{piece, laid}
+use Rattle.elements.specs.Pieces.{piece, laid}
 use Rattle.shape.specs.Lengths.{board-count, vector-length}
 use Rattle.coding.specs.Decoding.{held}
 use Rattle.coding.specs.Shaped.{fragments-length}

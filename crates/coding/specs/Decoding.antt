@@ -13,10 +13,11 @@ use Rattle.coding.specs.declared.decoding.Undecodable.{Undecodable}
 use Rattle.coding.specs.declared.decoding.Undecodable.the-variants.{Unfit, Overrun, Unreadable}
 use Rattle.polynomial.specs.declared.interpolation.Basis.{Basis}
 use Rattle.shape.specs.declared.Shape.{Shape}
-use Rattle.coding.specs.Pieces.{piece}
+use Rattle.elements.specs.Pieces.{piece}
 use Rattle.polynomial.specs.Polynomial.{interpolated}
 use Rattle.shape.specs.Lengths.{board-count, row-length, block-length, fragment-length}
-use Rattle.coding.specs.Code.{element, decoded, Elements}
+use Rattle.elements.specs.Element.{element, Elements}
+use Rattle.coding.specs.Code.{decoded}
 use Rattle.hash.specs.Bytes.{Bytes}
 use Rattle.polynomial.specs.Interpolation.{rising, Basis-of}
 use Rattle.coding.specs.Shaped.{is-block, fragments-length, fragment-of}

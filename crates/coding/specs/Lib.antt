@@ -1,5 +1,3 @@
-pub mod Pieces
-pub mod Numbers
 pub mod Code
 pub mod Shaped
 pub mod Decoding

@@ -6,7 +6,7 @@ use lib.Dec.{leb, eqb}
 use lib.ListN.{length}
 use Rattle.field.specs.Laws.{Arithmetic, width}
 use Rattle.shape.specs.declared.Shape.{Shape}
-use Rattle.coding.specs.Pieces.{piece, laid}
+use Rattle.elements.specs.Pieces.{piece, laid}
 use Rattle.shape.specs.Lengths.{is-board, board-count, block-length, fragment-length, vector-length, share-length}
 use Rattle.coding.specs.Code.{fragment, share}
 

@@ -2,17 +2,18 @@
 ghost use mathlib.Core.Path.{_≡_};
 ghost use mathlib.Core.Bool.{Bool, true, false};
 ghost use mathlib.Core.List.{map};
-ghost use Prim.Native.Nat.{ℕ, _*_, _<_, _≤_};
+ghost use Prim.Native.Nat.{ℕ, _/_, _<_, _≤_};
+ghost use Rattle.field.specs.Laws.{width};
 ghost use lib.ListN.{length, take};
 ghost use Rattle.std.specs.Orderings.{Decides};
-ghost use Rattle.coding.specs.Code.{element};
+ghost use Rattle.elements.specs.Element.{element};
 ghost use Rattle.hash.specs.Bytes.{Bytes};
 ghost use Rattle.polynomial.specs.Polynomial.{interpolated};
 ghost use Rattle.coding.specs.Decoding.{are-chosen, decode-fits, held, points-of, row-coefficients, Sound, coefficients, Decodes, Ready};
 ghost use Rattle.shape.specs.Lengths.{board-count};
 ghost use Rattle.coding.specs.Shaped.{fragments-length, is-block};
-use crate::elements::number_at;
-use crate::elements::overrun;
+use elements::overrun;
+use elements::read_element;
 use field::Field;
 use polynomial::Basis;
 use polynomial::rising;
@@ -63,9 +64,18 @@ fn holds_codes<F: Field>(shape: Shape, fragments: &[u8], boards: &[u16]) -> bool
     true
 }
 
+/// Element `i` of a part that has it, and has a code there.
+fn value_in<F: Field>(part: &[u8], i: usize) -> u16
+    requires { ⌜ i < length (now part) / width arithmetic ⌝ ∗ ⌜ element arithmetic (now part) i < arithmetic .size ⌝ }
+    ensures { λ r. ⌜ r ≡ element arithmetic (now (part .entry)) i ⌝ }
+{
+    read_element::<F>(part, i).unwrap()
+}
+
 /// The points of row `i`: each chosen board's number, and the value that its fragment has there.
 fn points<F: Field>(shape: Shape, fragments: &[u8], boards: &[u16], i: usize) -> [(u16, u16); 6]
     requires { ⌜ length (now fragments) ≡ fragments-length arithmetic shape ⌝ ∗ ⌜ are-chosen shape (now boards) ≡ true ⌝ ∗ ⌜ i < shape .rows ⌝ }
+    requires { ⌜ Sound arithmetic shape (now fragments) (now boards) ⌝ }
     ensures { λ r. ⌜ take (length (now (boards .entry))) r ≡ points-of arithmetic shape (now (fragments .entry)) (now (boards .entry)) i ⌝ }
 {
     let mut points = [(0, 0); 6];
@@ -73,7 +83,7 @@ fn points<F: Field>(shape: Shape, fragments: &[u8], boards: &[u16], i: usize) ->
         let board = boards[k];
         points[k] = (
             board,
-            number_at::<F>(held_by::<F>(shape, fragments, board), i),
+            value_in::<F>(held_by::<F>(shape, fragments, board), i),
         );
     }
     points

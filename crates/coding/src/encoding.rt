@@ -5,10 +5,10 @@ ghost use mathlib.Core.List.{_++_};
 ghost use Prim.Native.Nat.{ℕ, _*_, _<_, _≤_};
 ghost use lib.ListN.{length, drop};
 ghost use Rattle.field.specs.Laws.{width};
-ghost use Rattle.coding.specs.Pieces.{filled};
+ghost use Rattle.elements.specs.Pieces.{filled};
 ghost use Rattle.coding.specs.Code.{coded, Shares-fix-vectors};
 ghost use Rattle.coding.specs.Shaped.{fragment-fits, share-fits, fragments-fit, fragment-of, share-of, fragments-of, fragments-length};
-use crate::elements::put_number;
+use elements::write_element;
 use field::Field;
 use polynomial::value_at;
 use shape::Shape;
@@ -22,7 +22,7 @@ fn encode_rows<F: Field>(k: usize, rows: usize, source: &[u8], code: u16, part: 
     for i in 0..rows {
         let from = i * k;
         let to = source.len().min(from + k);
-        put_number::<F>(part, i, value_at::<F>(&source[from..to], code));
+        let _ = write_element::<F>(part, i, value_at::<F>(&source[from..to], code));
     }
 }
 

@@ -1,7 +1,6 @@
 //! The Reed-Solomon code over any field: how a block becomes one fragment for each board, and how any t + 1 of them give it back.
 mod commitment;
 mod decoding;
-mod elements;
 mod encoding;
 
 pub use commitment::commit;
@@ -10,9 +9,6 @@ pub use decoding::Undecodable;
 pub use decoding::UndecodableDebug;
 pub use decoding::UndecodablePartialEq;
 pub use decoding::decode;
-pub use elements::overrun;
-pub use elements::read_element;
-pub use elements::write_element;
 pub use encoding::encode_fragment;
 pub use encoding::encode_fragments;
 pub use encoding::encode_share;

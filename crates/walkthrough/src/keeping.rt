@@ -7,7 +7,7 @@ ghost use Rattle.std.specs.Of.Vec.{vec-items};
 ghost use Rattle.std.specs.Orderings.{Decides};
 ghost use Rattle.std.specs.Vec.{made};
 ghost use Rattle.coding.specs.Commitment.{fragment-digest};
-ghost use Rattle.coding.specs.Pieces.{piece};
+ghost use Rattle.elements.specs.Pieces.{piece};
 use crate::choices::Sorted;
 use crate::shown::first;
 use coding::commit;

@@ -7,9 +7,9 @@ use lib.ListN.{length, getD, drop}
 use Rattle.std.proofs.shelf.Lists.{drop-all}
 use Rattle.coding.specs.Commitment.{fragment-digest, vector-of}
 use Rattle.coding.specs.Decoding.{held}
-use Rattle.coding.specs.Pieces.{laid}
+use Rattle.elements.specs.Pieces.{laid}
 use Rattle.coding.proofs.Committed.{entry-long}
-use Rattle.coding.proofs.Pieces.{laid-start, laid-part}
+use Rattle.elements.proofs.Pieces.{laid-start, laid-part}
 use Rattle.coding.proofs.commitment.commit.Needs as need
 
 pub loop-i-holds : need.loop-i-holds

@@ -2,7 +2,7 @@ use mathlib.Core.Path.{_≡_}
 use mathlib.Core.List.{_++_}
 use Prim.Native.Nat.{_+_, _*_}
 use lib.ListN.{drop}
-use Rattle.coding.specs.Pieces.{laid}
+use Rattle.elements.specs.Pieces.{laid}
 use Rattle.coding.specs.Commitment.{fragment-digest}
 use Rattle.coding.specs.Decoding.{held}
 use Rattle.coding.proofs.commitment.commit.Given as given

@@ -1,4 +1,4 @@
-use Rattle.coding.specs.Code.{Elements}
+use Rattle.elements.specs.Element.{Elements}
 use Rattle.coding.specs.Decoding.{held}
 use Rattle.coding.proofs.Selected.{chosen-at, sound-at, not-sound}
 use Rattle.coding.proofs.Tried.{all-pass}

@@ -11,7 +11,7 @@ use Rattle.coding.specs.Code.{decoded}
 use Rattle.hash.specs.Bytes.{Bytes}
 use Rattle.coding.specs.Decoding.{held, row-coefficients, coefficients}
 use Rattle.shape.specs.Lengths.{row-length, block-length}
-use Rattle.coding.proofs.Pieces.{piece-end, laid-start, laid-part}
+use Rattle.elements.proofs.Pieces.{piece-end, laid-start, laid-part}
 use Rattle.coding.proofs.Rows.{first-places, row-bytes, row-long}
 use Rattle.coding.proofs.Selected.{block-long}
 use Rattle.coding.proofs.decoding.write_rows.Needs as need

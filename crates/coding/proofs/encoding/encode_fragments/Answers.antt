@@ -7,11 +7,11 @@ use lib.ListN.{length, drop}
 use Rattle.std.proofs.shelf.Edits.{length-between}
 use Rattle.field.specs.Laws.{width}
 use Rattle.shape.specs.Lengths.{row-length, fragment-length}
-use Rattle.coding.specs.Pieces.{laid}
+use Rattle.elements.specs.Pieces.{laid}
 use Rattle.coding.specs.Shaped.{fragment-of}
 use Rattle.coding.proofs.Encoded.{coded-length}
 use Rattle.coding.proofs.Fits.{fits}
-use Rattle.coding.proofs.Pieces.{laid-start, laid-part, piece-end}
+use Rattle.elements.proofs.Pieces.{laid-start, laid-part, piece-end}
 use Rattle.coding.proofs.encoding.encode_fragments.Needs as need
 
 pub loop-i-holds : need.loop-i-holds

@@ -1,14 +1,15 @@
-use mathlib.Core.Path.{_≡_, sym, ap, _∙_}
+use mathlib.Core.Path.{_≡_, sym, ap, subst, _∙_}
 use native.Mathlib.Omega.{arith}
 use borrow.Author.Needs.{needs}
-use Prim.Native.Nat.{_+_, _*_, _≤_}
+use Prim.Native.Nat.{_+_, _*_, _<_, _≤_}
 use lib.ListN.{length}
 use Rattle.std.proofs.shelf.Lists.{take-all}
 use Rattle.field.specs.Laws.{width}
-use Rattle.coding.specs.Pieces.{filled}
+use Rattle.polynomial.proofs.Evaluation.{eval-code}
+use Rattle.elements.specs.Pieces.{filled}
 use Rattle.coding.specs.Code.{coded}
-use Rattle.coding.proofs.Encoded.{coded-none, coded-more, cut-row}
-use Rattle.coding.proofs.Pieces.{piece-end}
+use Rattle.coding.proofs.Encoded.{coded-none, coded-more, cut-row, element-put}
+use Rattle.elements.proofs.Pieces.{piece-end}
 use Rattle.coding.proofs.encoding.encode_rows.Needs as need
 
 pub loop-i-holds : need.loop-i-holds
@@ -26,9 +27,11 @@ loop-i-again g c =
     let long : i * k + k ≤ length xs → to ≡ i * k + k = λ h. search needs in
     let row = cut-row R (g .F·Field·met .laws .ring) xs k n i to (c .args .code)
     (c .pre .1 .0 i (c .loop-i-test .taken)) (piece-end i (c .args .rows) k (c .loop-i-test .taken)) (c .pre .1 .1 .1) short long in
-    coded-more R k i (c .args .code) (c .value-at .result) (filled n xs) (c .loop-i .part) (c .put-number .last .part)
+    coded-more R k i (c .args .code) (c .value-at .result) (filled n xs) (c .loop-i .part) (c .write-element .last .part)
     (let e = piece-end i (c .args .rows) (width R) (c .loop-i-test .taken) in omega (arith, c .pre .0 .2))
-    (c .loop-i .inv) (c .value-at .ensures ∙ row) (c .put-number .ensures)
+    (c .loop-i .inv) (c .value-at .ensures ∙ row)
+    (element-put R (c .args .rows) i (c .value-at .result) (c .loop-i .part) (c .write-element .last .part) (c .write-element .result) (c .loop-i .kept .part ∙ c .pre .0 .2) (c .loop-i-test .taken)
+    (subst (λ v. v < R .size) (sym (c .value-at .ensures)) (eval-code R (g .F·Field·met .laws .ring) _ (c .args .code))) (c .write-element .ensures .answer) (c .write-element .ensures .part))
 
 pub returns : need.returns
 returns g c =

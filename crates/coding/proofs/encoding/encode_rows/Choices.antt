@@ -2,7 +2,7 @@ use mathlib.Core.Path.{_≡_}
 use Prim.Native.Nat.{_*_}
 use lib.ListN.{take}
 use Rattle.field.specs.Laws.{width}
-use Rattle.coding.specs.Pieces.{filled}
+use Rattle.elements.specs.Pieces.{filled}
 use Rattle.coding.specs.Code.{coded}
 use Rattle.coding.proofs.encoding.encode_rows.Given as given
 

@@ -3,7 +3,7 @@ use borrow.Author.Needs.{needs}
 use Prim.Native.Nat.{_*_}
 use Rattle.coding.specs.Code.{coded, Shares-fix-vectors}
 use Rattle.shape.specs.Lengths.{row-length}
-use Rattle.coding.specs.Pieces.{filled}
+use Rattle.elements.specs.Pieces.{filled}
 use Rattle.coding.proofs.Decoded.{shares-fix-vectors}
 use Rattle.coding.proofs.encoding.encode_share.Needs as need
 

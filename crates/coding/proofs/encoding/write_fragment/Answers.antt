@@ -2,11 +2,11 @@ use mathlib.Core.Path.{ap, _∙_}
 use native.Mathlib.Omega.{arith}
 use Prim.Native.Nat.{_*_}
 use Rattle.shape.specs.Lengths.{row-length}
-use Rattle.coding.specs.Pieces.{filled}
+use Rattle.elements.specs.Pieces.{filled}
 use Rattle.coding.specs.Code.{coded}
 use Rattle.coding.proofs.Encoded.{filled-whole}
 use Rattle.coding.proofs.Fits.{fitting}
-use Rattle.coding.proofs.Pieces.{piece-end}
+use Rattle.elements.proofs.Pieces.{piece-end}
 use Rattle.coding.proofs.encoding.write_fragment.Needs as need
 
 pub encode-rows-requires : need.encode-rows-requires

@@ -12,7 +12,7 @@ use borrow.Rule.Slice.PartMut.{putMid}
 use Rattle.std.proofs.shelf.Bits.{mul-le}
 use Rattle.std.proofs.shelf.Lists.{append-assoc, length-append, length-drop, take-all, take-append-le, take-at, drop-append-le, drop-at, drop-drop}
 use Rattle.std.proofs.shelf.Tests.{cases-lt}
-use Rattle.coding.specs.Pieces.{piece, laid}
+use Rattle.elements.specs.Pieces.{piece, laid}
 
 -- The piece i of n lies within them.
 pub piece-end : (i n w : ℕ) → i < n → i * w + w ≤ n * w

@@ -14,9 +14,9 @@ use Rattle.std.proofs.shelf.Edits.{sets, sets-eq}
 use Rattle.std.proofs.shelf.Lists.{length-append, append-assoc}
 use Rattle.std.proofs.shelf.Tests.{cases-bool, eqb-true}
 use Rattle.field.specs.Laws.{Arithmetic, Ring-Laws, width}
-use Rattle.coding.specs.Pieces.{piece, put}
-use Rattle.coding.specs.Numbers.{written, number}
-use Rattle.coding.specs.Code.{element}
+use Rattle.elements.specs.Pieces.{piece, put}
+use Rattle.elements.specs.Numbers.{written, number}
+use Rattle.elements.specs.Element.{element}
 
 -- An element has one byte, and then the codes are the bytes, or two.
 pub widths : (R : Arithmetic) → ((width R ≡ 1) × (R .size ≡ 256)) ⊎ (width R ≡ 2)

@@ -1,6 +1,6 @@
 use borrow.Author.Needs.{needs}
-use Rattle.coding.proofs.Written.{element-one, element-two, two-else}
-use Rattle.coding.proofs.elements.number_at.Needs as need
+use Rattle.elements.proofs.Written.{element-one, element-two, two-else}
+use Rattle.elements.proofs.number_at.Needs as need
 
 pub returns-then-element-width-eq1 : need.returns-then-element-width-eq1
 returns-then-element-width-eq1 g c =

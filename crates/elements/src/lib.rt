@@ -1,4 +1,4 @@
-// Elements of a fragment or a share: codes of w bytes each, the high byte first.
+//! Elements of a fragment or a share: codes of w bytes each, the high byte first.
 ghost use mathlib.Core.Path.{_≡_};
 ghost use mathlib.Core.Bool.{cond, _&&_};
 ghost use Prim.Native.Nat.{_+_, _*_, _/_, _≤_, _<_};
@@ -6,13 +6,13 @@ ghost use lib.Dec.{ltb};
 ghost use lib.ListN.{length};
 ghost use Rattle.std.specs.declared.option.Option.the-variants.{Some, None};
 ghost use Rattle.field.specs.Laws.{width};
-ghost use Rattle.coding.specs.Pieces.{put};
-ghost use Rattle.coding.specs.Numbers.{written};
-ghost use Rattle.coding.specs.Code.{element, First-overrun};
+ghost use Rattle.elements.specs.Pieces.{put};
+ghost use Rattle.elements.specs.Numbers.{written};
+ghost use Rattle.elements.specs.Element.{element, First-overrun};
 use field::Field;
 
 /// The number that the bytes of element `i` write, whether it is a code or not.
-pub(crate) fn number_at<F: Field>(part: &[u8], i: usize) -> u16
+fn number_at<F: Field>(part: &[u8], i: usize) -> u16
     requires { ⌜ i * width arithmetic + width arithmetic ≤ length (now part) ⌝ }
     ensures { λ r. ⌜ r ≡ element arithmetic (now (part .entry)) i ⌝ }
 {
@@ -24,7 +24,7 @@ pub(crate) fn number_at<F: Field>(part: &[u8], i: usize) -> u16
 }
 
 /// Writes `value` as element `i`.
-pub(crate) fn put_number<F: Field>(part: &mut [u8], i: usize, value: u16)
+fn put_number<F: Field>(part: &mut [u8], i: usize, value: u16)
     requires { ⌜ i * width arithmetic + width arithmetic ≤ length (now part) ⌝ }
     ensures { λ _. ⌜ now (part .exit) ≡ put (now (part .entry)) (i * width arithmetic) (written (width arithmetic) value) ⌝ }
 {

@@ -1,6 +1,6 @@
 use borrow.Author.Needs.{needs}
-use Rattle.coding.proofs.Written.{put-one, put-two, two-else}
-use Rattle.coding.proofs.elements.put_number.Needs as need
+use Rattle.elements.proofs.Written.{put-one, put-two, two-else}
+use Rattle.elements.proofs.put_number.Needs as need
 
 pub returns-then-element-width-eq1 : need.returns-then-element-width-eq1
 returns-then-element-width-eq1 g c =
