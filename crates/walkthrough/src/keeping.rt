@@ -19,7 +19,6 @@ use hash::Hash;
 use shape::Shape;
 use std::alloc::AllocError;
 use std::alloc::Global;
-use std::error::AnyError;
 
 /// What the boards keep of one design.
 #[derive(Drop)]
@@ -32,6 +31,8 @@ pub(crate) struct Kept {
     pub(crate) vector: Vec<u8>,
     /// Board 1's share of the vector.
     pub(crate) share: Vec<u8>,
+    /// Whether every call of the code went through.
+    pub(crate) coded: bool,
     ghost range: { (0 < size) × (size ≤ 1024) },
 }
 
@@ -49,27 +50,22 @@ pub(crate) fn keep<F: Field, D: Hash>(
     heap: Global,
     shape: Shape,
     design: &[u8],
-) -> Result<Kept, AnyError> {
+) -> Result<Kept, AllocError> {
     let size = shape.fragment_bytes::<F>();
     let block = fill_up(heap, design, shape.block_bytes())?;
     let mut fragments = vec![in heap; 0; shape.boards() * size]?;
     let mut vector = vec![in heap; 0; shape.vector_bytes()]?;
     let mut share = vec![in heap; 0; shape.share_bytes::<F>()]?;
-    if !encode_fragments::<F>(shape, block.as_slice(), fragments.as_mut_slice()) {
-        return Err("the block was not cut into fragments".into());
-    }
-    if !commit::<F, D>(shape, fragments.as_slice(), vector.as_mut_slice()) {
-        return Err("the fragments got no vector".into());
-    }
-    if !encode_share::<F>(shape, vector.as_slice(), 1, share.as_mut_slice()) {
-        return Err("the vector was not cut into shares".into());
-    }
+    let cut = encode_fragments::<F>(shape, block.as_slice(), fragments.as_mut_slice());
+    let committed = commit::<F, D>(shape, fragments.as_slice(), vector.as_mut_slice());
+    let shared = encode_share::<F>(shape, vector.as_slice(), 1, share.as_mut_slice());
     Ok(Kept {
         shape,
         size,
         fragments,
         vector,
         share,
+        coded: cut && committed && shared,
     })
 }
 

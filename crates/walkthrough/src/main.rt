@@ -16,11 +16,8 @@ use hash::Fold;
 use hash::FoldHash;
 use hash::Sha256;
 use hash::Sha256Hash;
-use rounds::FoldNamed;
 use rounds::Round;
-use rounds::Sha256Named;
 use rounds::tell_round;
-use std::error::AnyError;
 use std::io;
 use std::io::Read;
 use telling::tell_design;
@@ -28,56 +25,56 @@ use telling::tell_design;
 /// The rounds, in which other boards are away and another fragment is damaged each time.
 const ROUNDS: [Round; 8] = [
     Round {
-        number: 1,
+        title: "Round 1 of 8: t = 1, field 256, hash SHA-256",
         faults: 1,
         away: Away::Lowest,
         damaged: 2,
         shown: 32,
     },
     Round {
-        number: 2,
+        title: "Round 2 of 8: t = 1, field 256, hash Fold",
         faults: 1,
         away: Away::Highest,
         damaged: 1,
         shown: 8,
     },
     Round {
-        number: 3,
+        title: "Round 3 of 8: t = 1, field 257, hash SHA-256",
         faults: 1,
         away: Away::Middle,
         damaged: 4,
         shown: 8,
     },
     Round {
-        number: 4,
+        title: "Round 4 of 8: t = 1, field 257, hash Fold",
         faults: 1,
         away: Away::EveryThird,
         damaged: 3,
         shown: 8,
     },
     Round {
-        number: 5,
+        title: "Round 5 of 8: t = 2, field 256, hash SHA-256",
         faults: 2,
         away: Away::Lowest,
         damaged: 3,
         shown: 8,
     },
     Round {
-        number: 6,
+        title: "Round 6 of 8: t = 2, field 256, hash Fold",
         faults: 2,
         away: Away::Highest,
         damaged: 1,
         shown: 8,
     },
     Round {
-        number: 7,
+        title: "Round 7 of 8: t = 2, field 257, hash SHA-256",
         faults: 2,
         away: Away::Middle,
         damaged: 7,
         shown: 8,
     },
     Round {
-        number: 8,
+        title: "Round 8 of 8: t = 2, field 257, hash Fold",
         faults: 2,
         away: Away::EveryThird,
         damaged: 2,
@@ -124,7 +121,7 @@ fn tell_words(rt: &LibcRuntime, design: &[u8]) -> io::Result<()> {
 }
 
 /// Tells the rounds, with each field and each hash in turn, and says of each whether the design came back.
-fn tell_rounds(rt: &LibcRuntime, design: &[u8]) -> Result<[bool; 8], AnyError> {
+fn tell_rounds(rt: &LibcRuntime, design: &[u8]) -> io::Result<[bool; 8]> {
     Ok([
         tell_round::<Field256, Sha256>(rt, &ROUNDS[0], design)?,
         tell_round::<Field256, Fold>(rt, &ROUNDS[1], design)?,
@@ -138,7 +135,7 @@ fn tell_rounds(rt: &LibcRuntime, design: &[u8]) -> Result<[bool; 8], AnyError> {
 }
 
 /// Tells all that happens, and how many rounds gave the design back.
-fn run(rt: &LibcRuntime) -> Result<(), AnyError> {
+fn run(rt: &LibcRuntime) -> io::Result<()> {
     let design = read_design(rt)?;
     tell_words(rt, design.as_slice())?;
     let answers = tell_rounds(rt, design.as_slice())?;
@@ -151,6 +148,6 @@ fn run(rt: &LibcRuntime) -> Result<(), AnyError> {
     Ok(())
 }
 
-fn main(rt: LibcRuntime) -> Result<(), AnyError> {
-    rt.report(run(&rt))
+fn main(rt: LibcRuntime) -> io::Result<()> {
+    run(&rt)
 }

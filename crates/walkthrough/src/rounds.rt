@@ -5,40 +5,22 @@ use crate::choices::rows_for;
 use crate::fetching::fetch;
 use crate::keeping::Kept;
 use crate::keeping::keep;
+use crate::telling::print_length;
 use crate::telling::tell_damage;
 use crate::telling::tell_fetch;
 use crate::telling::tell_fragments;
 use crate::telling::tell_sizes;
 use coding::digest_of;
 use field::Field;
-use hash::Fold;
 use hash::Hash;
-use hash::Sha256;
 use shape::Shape;
-use std::error::AnyError;
-
-/// A hash function that has a name.
-pub(crate) trait Named {
-    /// The name.
-    fn name() -> &'static str;
-}
-
-pub(crate) impl Named for Sha256 as Sha256Named {
-    fn name() -> &'static str {
-        "SHA-256"
-    }
-}
-
-pub(crate) impl Named for Fold as FoldNamed {
-    fn name() -> &'static str {
-        "Fold"
-    }
-}
+use std::io;
 
 /// What a round does.
 #[derive(Clone, Copy)]
 pub(crate) struct Round {
-    pub(crate) number: u8,
+    /// Its number, t, the field and the hash, in words.
+    pub(crate) title: &'static str,
     /// How many boards may be missing or broken.
     pub(crate) faults: u8,
     pub(crate) away: Away,
@@ -54,7 +36,7 @@ fn tell_absence<F: Field>(
     round: &Round,
     kept: &Kept,
     design: &[u8],
-) -> Result<bool, AnyError> {
+) -> io::Result<bool> {
     let heap = rt.alloc();
     let boards = present(
         heap,
@@ -73,7 +55,7 @@ fn tell_repair<F: Field, D: Hash>(
     round: &Round,
     mut kept: Kept,
     design: &[u8],
-) -> Result<bool, AnyError> {
+) -> io::Result<bool> {
     let heap = rt.alloc();
     kept.damage(round.damaged);
     let digest = digest_of::<D>(round.damaged, kept.fragment(round.damaged));
@@ -104,30 +86,26 @@ fn lengths_of<F: Field>(shape: Shape) -> [usize; 7] {
 }
 
 /// Tells a round over a field and a hash, and says whether the design came back each time.
-pub(crate) fn tell_round<F: Field, D: Hash + Named>(
+pub(crate) fn tell_round<F: Field, D: Hash>(
     rt: &LibcRuntime,
     round: &Round,
     design: &[u8],
-) -> Result<bool, AnyError> {
-    println!(
-        rt,
-        "\nRound {} of 8: t = {}, field {}, hash {}",
-        round.number,
-        round.faults,
-        F::order(),
-        D::name()
-    )?;
+) -> io::Result<bool> {
+    rt.println("")?;
+    rt.println(round.title)?;
     let row = usize::from(round.faults) + 1;
     let rows = rows_for(design.len(), row);
     let Some(shape) = Shape::new(usize::from(round.faults), rows) else {
-        println!(
+        print_length(
             rt,
-            "    refused     {} bytes are {rows} rows of {row} bytes, and a block has at most 512 rows",
-            design.len()
+            "    refused     a block has at most 512 rows, and the design needs ",
+            rows,
         )?;
+        rt.println("")?;
         return Ok(false);
     };
     let kept = keep::<F, D>(rt.alloc(), shape, design)?;
+    let coded = kept.coded;
     tell_sizes(
         rt,
         &lengths_of::<F>(shape),
@@ -136,5 +114,5 @@ pub(crate) fn tell_round<F: Field, D: Hash + Named>(
     tell_fragments(rt, round.shown, &kept)?;
     let fetched = tell_absence::<F>(rt, round, &kept, design)?;
     let repaired = tell_repair::<F, D>(rt, round, kept, design)?;
-    Ok(fetched && repaired)
+    Ok(coded && fetched && repaired)
 }

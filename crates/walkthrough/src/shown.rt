@@ -30,8 +30,14 @@ pub(crate) fn first(bytes: &[u8], count: usize) -> &[u8]
     &bytes[0..bytes.len().min(count)]
 }
 
-/// Prints bytes in hexadecimal, with a text after each.
-pub(crate) fn print_hex(rt: &LibcRuntime, bytes: &[u8], after: &str) -> io::Result<()> {
+/// Prints a label, and bytes in hexadecimal with a text after each.
+pub(crate) fn print_hex(
+    rt: &LibcRuntime,
+    label: &str,
+    bytes: &[u8],
+    after: &str,
+) -> io::Result<()> {
+    rt.print(label)?;
     for byte in bytes {
         rt.print(DIGITS[usize::from(*byte / 16)])?;
         rt.print(DIGITS[usize::from(*byte % 16)])?;
@@ -40,8 +46,9 @@ pub(crate) fn print_hex(rt: &LibcRuntime, bytes: &[u8], after: &str) -> io::Resu
     Ok(())
 }
 
-/// Prints bytes as text, with a dot for each that is no printable character.
+/// Prints bytes as text in quotes, with a dot for each that is no printable character.
 pub(crate) fn print_text(rt: &LibcRuntime, bytes: &[u8]) -> io::Result<()> {
+    rt.print("\"")?;
     for byte in bytes {
         let shown = if *byte >= b' ' && *byte <= b'~' {
             *byte
@@ -50,7 +57,7 @@ pub(crate) fn print_text(rt: &LibcRuntime, bytes: &[u8]) -> io::Result<()> {
         };
         rt.print(char::from(shown))?;
     }
-    Ok(())
+    rt.print("\"")
 }
 
 /// Prints a label and the boards after it by their numbers.

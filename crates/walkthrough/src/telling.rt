@@ -20,7 +20,7 @@ const LETTERS: [&str; 7] = [
 ];
 
 /// Prints a length by its letter.
-fn print_length(rt: &LibcRuntime, letter: &str, length: usize) -> io::Result<()> {
+pub(crate) fn print_length(rt: &LibcRuntime, letter: &str, length: usize) -> io::Result<()> {
     rt.print(letter)?;
     rt.print(length)
 }
@@ -43,12 +43,9 @@ fn tell_fragment(
     fragment: &[u8],
     digest: &[u8],
 ) -> io::Result<()> {
-    rt.print(label)?;
-    rt.print(board)?;
-    rt.print("   ")?;
-    print_hex(rt, first(fragment, 8), " ")?;
-    rt.print(" ")?;
-    print_hex(rt, digest, "")?;
+    print_length(rt, label, usize::from(board))?;
+    print_hex(rt, "   ", first(fragment, 8), " ")?;
+    print_hex(rt, " ", digest, "")?;
     rt.println("")
 }
 
@@ -59,8 +56,7 @@ pub(crate) fn tell_fragments(rt: &LibcRuntime, shown: usize, kept: &Kept) -> io:
     for (board, (fragment, entry)) in (1..=kept.shape.boards() as u16).zip(fragments.zip(entries)) {
         tell_fragment(rt, "    board   ", board, fragment, first(entry, shown))?;
     }
-    rt.print("    share of 1  ")?;
-    print_hex(rt, first(kept.share.as_slice(), 8), " ")?;
+    print_hex(rt, "    share of 1  ", first(kept.share.as_slice(), 8), " ")?;
     rt.println("")
 }
 
@@ -105,9 +101,6 @@ pub(crate) fn tell_fetch(rt: &LibcRuntime, label: &str, fetch: &Fetched) -> io::
 pub(crate) fn tell_design(rt: &LibcRuntime, label: &str, design: &[u8]) -> io::Result<()> {
     let begins = first(design, 12);
     print_length(rt, label, design.len())?;
-    rt.print(" bytes: ")?;
-    print_hex(rt, begins, " ")?;
-    rt.print("\"")?;
-    print_text(rt, begins)?;
-    rt.print("\"")
+    print_hex(rt, " bytes: ", begins, " ")?;
+    print_text(rt, begins)
 }
