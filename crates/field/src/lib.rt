@@ -1,14 +1,7 @@
-//! Fields of 256 to 65,536 codes: one interface, and two fields that meet it.
-mod binary;
-mod modular;
-
+//! The interface of a field of 256 to 65,536 codes, and the laws that every field owes.
 ghost use mathlib.Core.Path.{_≡_};
 ghost use Prim.Native.Nat.{ℕ};
 ghost use Rattle.field.specs.Laws.{Arithmetic, Field-Laws, width};
-pub use binary::Field256;
-pub use binary::Field256Field;
-pub use modular::Field257;
-pub use modular::Field257Field;
 
 /// A finite field whose elements are the codes 0 to q - 1. It keeps no state and refuses nothing: an operation that is given a number of q or more answers 0.
 pub trait Field {

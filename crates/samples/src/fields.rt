@@ -1,9 +1,9 @@
 //! Published and hand-worked values of the two fields.
 use field::Field;
-use field::Field256;
-use field::Field256Field;
-use field::Field257;
-use field::Field257Field;
+use field256::Field256;
+use field256::Field256Field;
+use field257::Field257;
+use field257::Field257Field;
 use std::test::*;
 
 /// The sum and the products of 0x57 are those that FIPS 197 works out.

@@ -8,10 +8,10 @@ mod telling;
 
 use choices::Away;
 use choices::yes_count;
-use field::Field256;
-use field::Field256Field;
-use field::Field257;
-use field::Field257Field;
+use field256::Field256;
+use field256::Field256Field;
+use field257::Field257;
+use field257::Field257Field;
 use hash::Fold;
 use hash::FoldHash;
 use hash::Sha256;

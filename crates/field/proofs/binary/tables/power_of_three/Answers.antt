@@ -1,8 +1,0 @@
--- The table is computed from the definition of the product.
-use Rattle.field.specs.Gf256.{times, reduced, product}
-use Rattle.field.proofs.binary.Powers.{power-entry}
-use Rattle.field.proofs.binary.tables.power_of_three.Needs as need
-
-pub returns : need.returns
-unfolding product times reduced
-returns c = power-entry (c .args .k) (c .pre)
