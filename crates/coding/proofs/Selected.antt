@@ -1,18 +1,19 @@
 -- The chosen boards and their fragments.
 use mathlib.Core.Path.{_≡_, refl, sym, ap, ap₂, subst, _∙_}
-use mathlib.Core.Bool.{Bool, true, false, _&&_}
+use mathlib.Core.Bool.{Bool, true, false, cond, _&&_}
 use mathlib.Core.List.{List, [], _∷_, _++_, map}
 use Prim.Native.Nat.{ℕ, _+_, _-_, _*_, _/_, _<_, _≤_}
 use native.Mathlib.Omega.{arith}
 use lib.Dec.{eqb, leb, ltb}
 use lib.ListN.{length, getD, take, drop, set}
 use Rattle.std.specs.Orderings.{Decides}
-use Rattle.std.specs.declared.option.Option.the-variants.{Some}
+use Rattle.std.specs.declared.option.Option.{Option}
+use Rattle.std.specs.declared.option.Option.the-variants.{Some, None}
 use Rattle.std.specs.shelf.Lists.{All}
 use Rattle.std.proofs.shelf.Bits.{div-mul-add}
 use Rattle.std.proofs.shelf.Elements.{all-getD, all-from-getD, all-more}
 use Rattle.std.proofs.shelf.Lists.{length-drop, length-take-le, map-more, take-more-set}
-use Rattle.std.proofs.shelf.Tests.{and-parts, and-from, eqb-true, leb-true, ltb-true, le-leb, lt-ltb}
+use Rattle.std.proofs.shelf.Tests.{and-parts, and-from, eqb-true, leb-true, ltb-true, le-leb, lt-ltb, cond-true}
 use Rattle.field.specs.Laws.{Arithmetic, Ring-Laws, width}
 use Rattle.field.proofs.Widths.{width-least}
 use Rattle.shape.specs.declared.Shape.{Shape}
@@ -112,3 +113,10 @@ module _ (R : Arithmetic) (s : Shape) (fragments : List ℕ) (long : length frag
 -- The rows of as many bytes as boards are chosen fill the block.
 pub block-long : (s : Shape) (js : List ℕ) → are-chosen s js ≡ true → (block : List ℕ) → is-block s block ≡ true → length block ≡ s .rows * length js
 block-long s js yes! block e = eqb-true (length block) (block-length (s .faults) (s .rows)) e ∙ ap (λ k. s .rows * k) (sym (chosen-many s js yes!))
+
+-- An element that a part has, and that is a code, is read.
+pub element-read : (R : Arithmetic) (x : List ℕ) (i : ℕ) (r : Option ℕ) → i < length x / width R → element R x i < R .size →
+    r ≡ cond (ltb i (length x / width R) && ltb (element R x i) (R .size)) (Some (element R x i)) None → r ≡ Some (element R x i)
+element-read R x i r h code is =
+    is ∙ cond-true (ltb i (length x / width R) && ltb (element R x i) (R .size)) (Some (element R x i)) None
+    (and-from (ltb i (length x / width R)) (ltb (element R x i) (R .size)) (lt-ltb i (length x / width R) h) (lt-ltb (element R x i) (R .size) code))

@@ -49,6 +49,14 @@ pub fn encode_fragment<F: Field>(shape: Shape, block: &[u8], board: u16, part: &
     true
 }
 
+/// Writes a board's share of a commitment vector into its part.
+fn write_share<F: Field>(shape: Shape, vector: &[u8], board: u16, part: &mut [u8])
+    requires { ⌜ share-fits arithmetic shape (now vector) board (now part) ≡ true ⌝ }
+    ensures { λ _. ⌜ now (part .exit) ≡ share-of arithmetic shape (now (vector .entry)) board ⌝ }
+{
+    encode_rows::<F>(shape.row_bytes(), shape.share_rows(), vector, board, part);
+}
+
 /// Writes a board's share of a commitment vector into its part. False, with the part as found, where there is no such board or a length does not fit.
 pub fn encode_share<F: Field>(shape: Shape, vector: &[u8], board: u16, part: &mut [u8]) -> bool
     ensures answer { λ r. ⌜ r ≡ share-fits arithmetic shape (now (vector .entry)) board (now (part .entry)) ⌝ }
@@ -61,7 +69,7 @@ pub fn encode_share<F: Field>(shape: Shape, vector: &[u8], board: u16, part: &mu
     if vector.len() != shape.vector_bytes() || part.len() != shape.share_bytes::<F>() {
         return false;
     }
-    encode_rows::<F>(shape.row_bytes(), shape.share_rows(), vector, board, part);
+    write_share::<F>(shape, vector, board, part);
     true
 }
 

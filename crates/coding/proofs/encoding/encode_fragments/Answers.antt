@@ -1,14 +1,16 @@
-use mathlib.Core.Path.{_≡_, sym, ap, ap₂, _∙_}
+use mathlib.Core.Path.{_≡_, sym, ap, ap₂, subst, _∙_}
 use mathlib.Core.List.{List, _++_}
 use native.Mathlib.Omega.{arith}
 use borrow.Author.Needs.{needs}
 use Prim.Native.Nat.{ℕ, _+_, _-_, _*_, _≤_}
+use lib.Dec.{leb}
 use lib.ListN.{length, drop}
+use Rattle.std.proofs.shelf.Tests.{and-from, eq-eqb, le-leb}
 use Rattle.std.proofs.shelf.Edits.{length-between}
 use Rattle.field.specs.Laws.{width}
-use Rattle.shape.specs.Lengths.{row-length, fragment-length}
+use Rattle.shape.specs.Lengths.{row-length, block-length}
 use Rattle.elements.specs.Pieces.{laid}
-use Rattle.coding.specs.Shaped.{fragment-of}
+use Rattle.coding.specs.Shaped.{is-block, fragment-of, fragments-length}
 use Rattle.coding.proofs.Encoded.{coded-length}
 use Rattle.coding.proofs.Fits.{fits}
 use Rattle.elements.proofs.Pieces.{laid-start, laid-part, piece-end}
@@ -48,7 +50,11 @@ returns g c =
     let block = c .args .block .now in
     let end : c .loop-i .i ≡ c .boards-count .result = omega arith in
     record {
-      answer = search needs;
+      answer = sym
+          (and-from (is-block s block) (leb (fragments-length R s) (length (c .args .memory .now)))
+          (eq-eqb (length block) (block-length (s .faults) (s .rows)) (c .if-block-block-bytes .left ∙ c .block-bytes .ensures))
+          (le-leb (fragments-length R s) (length (c .args .memory .now))
+          (subst (λ n. n ≤ length (c .args .memory .now)) (ap₂ _*_ (c .boards-count .ensures) (c .fragment-bytes-size .ensures)) (c .if-memory-count .left))));
       memory = c .loop-i .inv
           ∙ ap (λ n. laid (λ i. fragment-of R s block (i + 1)) n ++ drop (n * c .fragment-bytes-size .result) (c .args .memory .now)) (end ∙ c .boards-count .ensures)
           ∙ ap (λ z. laid (λ i. fragment-of R s block (i + 1)) (3 * s .faults + 1) ++ drop ((3 * s .faults + 1) * z) (c .args .memory .now)) (c .fragment-bytes-size .ensures);
