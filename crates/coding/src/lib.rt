@@ -1,4 +1,6 @@
 //! The Reed-Solomon code over any field: how a block becomes one fragment for each board, and how any t + 1 of them give it back.
+#![tactic(auto)]
+
 mod commitment;
 mod decoding;
 mod encoding;

@@ -1,4 +1,6 @@
 //! Byte strings in pieces of one size: those of a fragment or a share are elements, codes of w bytes each, the high byte first.
+#![tactic(auto)]
+
 ghost use Rattle.std.specs.Prelude.{◌≡◌, ◌+◌, ◌*◌, ◌/◌, ◌<◌, ◌≤◌, ◌&&◌, ltb, length, if◌then◌else◌, Some, None, nat_lt};
 ghost use Rattle.field.specs.Laws.{width};
 ghost use Rattle.elements.specs.Pieces.{piece, put};

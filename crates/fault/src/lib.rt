@@ -1,4 +1,6 @@
 //! Faults of frames, and of the elements in them, which carry their places.
+#![tactic(auto)]
+
 ghost use Rattle.std.specs.Prelude.{◌≡◌};
 ghost use Rattle.fault.specs.declared.FrameFault.TheVariants.{Field};
 ghost use Rattle.fault.specs.Faults.{refusal, place};

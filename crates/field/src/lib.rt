@@ -1,4 +1,6 @@
 //! The interface of a field of 256 to 65,536 codes, and the laws that every field owes.
+#![tactic(auto)]
+
 ghost use Rattle.std.specs.Prelude.{◌≡◌, ℕ};
 ghost use Rattle.field.specs.Laws.{Arithmetic, FieldLaws, width};
 

@@ -1,4 +1,6 @@
 //! The field of 256 codes of FIPS 197: polynomials over the field of two elements, reduced by x^8 + x^4 + x^3 + x + 1.
+#![tactic(auto)]
+
 mod tables;
 
 ghost use Rattle.field256.specs.Gf256.{arithmetic, inverted};

@@ -1,4 +1,6 @@
 //! The field of 257 codes: the remainders after division by the prime 257.
+#![tactic(auto)]
+
 ghost use Rattle.std.specs.Prelude.{◌≡◌, ◌<◌};
 ghost use Rattle.field257.specs.Gf257.{arithmetic, inverted, reciprocal};
 ghost use Rattle.field257.specs.Laws;

@@ -1,4 +1,6 @@
 //! Frames on the wire: what parties say to each other, and how it is written.
+#![tactic(auto)]
+
 ghost use Rattle.std.specs.Prelude.{◌≡◌};
 ghost use Rattle.protocol.specs.Messages.{kind, sender};
 ghost use Rattle.frame.specs.Frames.{message, vector, payload};

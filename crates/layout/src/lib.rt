@@ -1,4 +1,6 @@
 //! The kinds of frame: their numbers, senders and lengths, read off one table.
+#![tactic(auto)]
+
 ghost use Rattle.std.specs.Prelude.{◌≡◌, ◌≤◌};
 ghost use Rattle.layout.specs.Kinds.{number, numbered, is_sender, digests, bytes, frame_length};
 

@@ -1,4 +1,6 @@
 //! Polynomials over any field: their values, and the polynomial through given points.
+#![tactic(auto)]
+
 mod horner;
 mod interpolation;
 

@@ -1,4 +1,6 @@
 //! The protocol by which boards agree on a commitment vector and fetchers read a design back: messages, histories, logs, and the promises that hold over every log.
+#![tactic(auto)]
+
 ghost use Rattle.protocol.specs.Log.{Log, Valid};
 ghost use Rattle.protocol.specs.Machines.{Machines};
 ghost use Rattle.protocol.specs.Promises.{Promises, Possible};

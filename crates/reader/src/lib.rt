@@ -1,4 +1,6 @@
 //! Reading frames: the layout first, and then the elements.
+#![tactic(auto)]
+
 ghost use Rattle.std.specs.Prelude.{◌≡◌, ◌+◌, ◌^◌, ◌<◌, ◌≤◌, length};
 ghost use Rattle.frame.specs.Frames.{message, made};
 ghost use Rattle.frame.specs.Reading.{reads, told, WritesBack, checked, reads_checked};

@@ -1,4 +1,6 @@
 //! The refusals: each has a number, a word and the layer that it comes from, and where several fit the smaller number is given.
+#![tactic(auto)]
+
 ghost use Rattle.std.specs.Prelude.{◌≡◌};
 ghost use Rattle.refusal.specs.Refusals.{number, word, layer, layer_word};
 

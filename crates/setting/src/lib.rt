@@ -1,4 +1,6 @@
 //! The setting that the parties run in: what the protocol takes as given holds over every field and every hash, and so do its promises.
+#![tactic(auto)]
+
 ghost use Rattle.std.specs.Prelude.{ℕ};
 ghost use Rattle.protocol.specs.Log.{Log, Valid};
 ghost use Rattle.protocol.specs.Promises.{Promises};

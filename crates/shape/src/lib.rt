@@ -1,4 +1,6 @@
 //! The lengths of a dispersal: all of them follow from how many faulty boards it tolerates and how many rows its blocks have.
+#![tactic(auto)]
+
 ghost use Rattle.std.specs.Prelude.{◌≡◌, ◌≤◌, false, MatchOption};
 ghost use Rattle.field.specs.Laws.{width};
 ghost use Rattle.shape.specs.Lengths.{in_range, board_count, row_length, block_length, fragment_length, vector_length, share_rows, share_length};

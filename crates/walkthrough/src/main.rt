@@ -1,4 +1,6 @@
 //! Tells, on a design from standard input, how boards keep it and how any t + 1 of them give it back.
+#![tactic(auto)]
+
 mod choices;
 mod fetching;
 mod keeping;
