@@ -183,14 +183,14 @@ module _ (S : Setting) (laws : Laws S) (log : Log) (ok : Valid S log) where
 
   dealer_party : (d : Bytes) → design log ≡ Some d → Party S log 0 (S.vector d)
   dealer_party d has-dealt =
-      let good : S.is_Block d ≡ true = design-block S log d ok has-dealt in
+      let good : S.is_block d ≡ true = design-block S log d ok has-dealt in
       let match : matches S (S.vector d) d ≡ true =
       every-from (λ i. fits S i (S.vector d) (S.fragment d i)) (boards S) (λ i p q. eq_same _ _ (laws.block_entry d good i (p, q))) in
       record {
         coefs = d;
         owns = has-dealt;
         rows = laws.block_rows d good;
-        holds = mapped_from block (design log) d has-dealt ∙ ap Some (sym (cond-true (matches S (S.vector d) d && S.is_Block d) (block d) mark (and_from _ _ match good)));
+        holds = mapped_from block (design log) d has-dealt ∙ ap Some (sym (cond-true (matches S (S.vector d) d && S.is_block d) (block d) mark (and_from _ _ match good)));
         sure = sym match;
       }
 
@@ -239,7 +239,7 @@ module _ (S : Setting) (laws : Laws S) (log : Log) (ok : Valid S log) where
 
   marked : (f : ℕ) (v : Bytes) (one : Party S log f v) → is_sure S log f ≡ false → holding S log f ≡ Some mark
   marked f v one unsure =
-      one.holds ∙ ap Some (cond-false (matches S v one.coefs && S.is_Block one.coefs) (block one.coefs) mark (and_left _ _ (sym one.sure ∙ unsure)))
+      one.holds ∙ ap Some (cond-false (matches S v one.coefs && S.is_block one.coefs) (block one.coefs) mark (and_left _ _ (sym one.sure ∙ unsure)))
 
   abbrev Unequal : ℕ → ℕ → Type 0
   Unequal a b = holding S log a ≡ holding S log b → ⊥

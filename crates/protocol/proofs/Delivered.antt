@@ -48,7 +48,7 @@ pub design_keep : (e : Event) (log : Log) (d : Bytes) → design log ≡ Some d 
 unfolding design
 design_keep e log d h = first_left (design log) (deals e) d h
 
-pub design-block : (S : Setting) (log : Log) (d : Bytes) → Valid S log → design log ≡ Some d → S.is_Block d ≡ true
+pub design-block : (S : Setting) (log : Log) (d : Bytes) → Valid S log → design log ≡ Some d → S.is_block d ≡ true
 unfolding design
 design-block S [] d ok h = absurd (none_some h)
 design-block S (e ∷ log) d ok h = elim (first_either (design log) (deals e) d h) [
@@ -56,9 +56,9 @@ design-block S (e ∷ log) d ok h = elim (first_either (design log) (deals e) d 
   | inr x ↦ dealt-block e ok.0 x
 ]
   where
-    dealt-block : (e : Event) → Allowed S log e → deals e ≡ Some d → S.is_Block d ≡ true
+    dealt-block : (e : Event) → Allowed S log e → deals e ≡ Some d → S.is_block d ≡ true
     dealt-block (turned p) a x = absurd (none_some x)
-    dealt-block (dealt b) a x = ap S.is_Block (sym (some_inj x)) ∙ a.0
+    dealt-block (dealt b) a x = ap S.is_block (sym (some_inj x)) ∙ a.0
     dealt-block (started f) a x = absurd (none_some x)
     dealt-block (delivered r m) a x = absurd (none_some x)
 

@@ -54,7 +54,7 @@ pub data Ending : Type 0 where
   mark : Ending
 
 abbrev pub ending : Setting → Bytes → List ℕ → Ending
-ending S v c = cond (matches S v c && S.is_Block c) (block c) mark
+ending S v c = cond (matches S v c && S.is_block c) (block c) mark
 
 -- What a fetcher ends with by what it has heard.
 abbrev pub outcome : Setting → (ℕ → Option Bytes) → Bytes → Ending

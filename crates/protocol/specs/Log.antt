@@ -101,7 +101,7 @@ is_open S log r = cond (nat_le r (boards S)) (not (is_turned log r)) (is_started
 -- A message of a turned sender may be anything that has the form of its kind; any other is one that its sender has issued.
 abbrev pub Allowed : Setting → Log → Event → Type 0
 Allowed S log (turned p) = (is_turned log p ≡ false) × (p ≤ boards S) × (1 ≤ p → count (is_turned log) (boards S) < S.t)
-Allowed S log (dealt d) = (S.is_Block d ≡ true) × (design log ≡ None) × (is_turned log 0 ≡ false)
+Allowed S log (dealt d) = (S.is_block d ≡ true) × (design log ≡ None) × (is_turned log 0 ≡ false)
 Allowed S log (started f) = (1 ≤ f) × (f ≤ S.fetchers) × (is_started log f ≡ false)
 Allowed S log (delivered r m) =
     Goes S (kind m) (sender m) r
