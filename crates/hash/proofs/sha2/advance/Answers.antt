@@ -8,4 +8,4 @@ returns c =
     λ m v e.
     let t = c.args.t in
     let more = reached_more t m v c.args.s c.step-r.result c.args.w.now (omega arith) e (c.step-r.ensures v e.state) in
-    subst (Reached _ m v c.step-r.result) (sym c.next-word.ensures) more
+    subst (Reached _ m v c.step-r.result) (sym c.next_word.ensures) more

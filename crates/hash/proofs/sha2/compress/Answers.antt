@@ -7,8 +7,8 @@ use Rattle.hash.proofs.sha2.compress.Goals as goal
 pub loop-i-init : goal.loop-i-init
 unfolding rounds schedule
 loop-i-init c =
-    let long : length c.first-words-w.result ≡ 64 = search rules in
-    (long, record { words = c.first-words-w.ensures; state = refl })
+    let long : length c.first_words-w.result ≡ 64 = search rules in
+    (long, record { words = c.first_words-w.ensures; state = refl })
 
 pub loop-i-preserved : goal.loop-i-preserved
 loop-i-preserved c =

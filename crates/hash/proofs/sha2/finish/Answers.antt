@@ -6,30 +6,30 @@ use Rattle.hash.proofs.sha2.finish.Goals as goal
 pub returns-then-fits : goal.returns-then-fits
 returns-then-fits c =
     c.compress.ensures
-    ∙ ap (λ s. compress s c.with-length.result) c.requires
+    ∙ ap (λ s. compress s c.with_length.result) c.requires
     ∙ finish_one
     c.args.bytes.now
-    c.as-chunks.result.1.now
-    c.as-chunks.ensures.back
-    c.as-chunks.ensures.back_len
+    c.as_chunks.result.1.now
+    c.as_chunks.ensures.back
+    c.as_chunks.ensures.back_len
     (omega (arith, c.if-fits.true))
     c.marked-last.result
-    c.with-length.result
+    c.with_length.result
     c.marked-last.ensures
-    c.with-length.ensures
+    c.with_length.ensures
 
 pub returns-else-fits : goal.returns-else-fits
 returns-else-fits c =
     c.compress-else-fits-2.ensures
-    ∙ ap (λ s. compress s c.with-length-else-fits.result) c.compress-else-fits.ensures
-    ∙ ap (λ s. compress (compress s c.marked-last.result) c.with-length-else-fits.result) c.requires
+    ∙ ap (λ s. compress s c.with_length-else-fits.result) c.compress-else-fits.ensures
+    ∙ ap (λ s. compress (compress s c.marked-last.result) c.with_length-else-fits.result) c.requires
     ∙ finish_two
     c.args.bytes.now
-    c.as-chunks.result.1.now
-    c.as-chunks.ensures.back
-    c.as-chunks.ensures.back_len
+    c.as_chunks.result.1.now
+    c.as_chunks.ensures.back
+    c.as_chunks.ensures.back_len
     (omega (arith, c.if-fits.false))
     c.marked-last.result
-    c.with-length-else-fits.result
+    c.with_length-else-fits.result
     c.marked-last.ensures
-    c.with-length-else-fits.ensures
+    c.with_length-else-fits.ensures

@@ -11,7 +11,7 @@ words s = s.a ∷ s.b ∷ s.c ∷ s.d ∷ s.e ∷ s.f ∷ s.g ∷ s.h ∷ []
 
 pub loop-i-preserved : goal.loop-i-preserved
 loop-i-preserved c =
-    (c.put-word.array_long, bytes_step (words c.args.s) c.loop-i.out c.put-word.new.out c.loop-i.i c.loop-i-test.true c.loop-i.invariant.1 c.put-word.ensures)
+    (c.put_word.array_long, bytes_step (words c.args.s) c.loop-i.out c.put_word.new.out c.loop-i.i c.loop-i-test.true c.loop-i.invariant.1 c.put_word.ensures)
 
 pub returns : goal.returns
 unfolding state_bytes

@@ -12,13 +12,13 @@ pub loop-block-preserved : goal.loop-block-preserved
 loop-block-preserved c =
     let m = c.args.bytes.now in
     let i = c.loop-block.block-index in
-    let within : i < length m / 64 = omega (arith, c.as-chunks.ensures.front-len) in
-    let piece = chunk_at 64 i m c.as-chunks.result.0.now c.as-chunks.ensures.front within in
+    let within : i < length m / 64 = omega (arith, c.as_chunks.ensures.front_len) in
+    let piece = chunk_at 64 i m c.as_chunks.result.0.now c.as_chunks.ensures.front within in
     let more = hashed-more i m in
     cc
 
 pub returns : goal.returns
 returns c =
     let m = c.args.bytes.now in
-    let end : c.loop-block.block-index ≡ length m / 64 = omega (arith, c.as-chunks.ensures.front-len) in
+    let end : c.loop-block.block-index ≡ length m / 64 = omega (arith, c.as_chunks.ensures.front_len) in
     c.loop-block.invariant ∙ ap (λ n. hashed n m) end
