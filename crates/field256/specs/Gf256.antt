@@ -27,7 +27,7 @@ squares zero a = 1
 squares (suc n) a = product (product a a) (squares n (product a a))
 
 abbrev pub arithmetic : Arithmetic
-arithmetic = record { size = 256; add = on_codes 256 bitXor; sub = on_codes 256 bitXor; mul = on_codes 256 product }
+arithmetic = record { size = 256; add = on_codes 256 bit_xor; sub = on_codes 256 bit_xor; mul = on_codes 256 product }
 
 -- The inverse of a is a ^ 254, since a ^ 255 is 1 for each of the 255 codes but 0. And 254 is 2 + 4 + .. + 128, seven squares.
 abbrev pub inverted : ℕ → ℕ
