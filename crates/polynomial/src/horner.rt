@@ -6,7 +6,7 @@ use field::Field;
 
 /// The value at `x` of the polynomial with the bytes of `row` for its coefficients, the constant first: Horner's rule.
 pub fn value_at<F: Field>(row: &[u8], x: u16) -> u16
-    ensures { result ≡ eval arithmetic row.now x }
+    ensures { result ≡ eval F.arithmetic row.now x }
 {
     let mut value = 0;
     for i in (0..row.len()).rev() {

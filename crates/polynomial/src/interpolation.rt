@@ -19,7 +19,7 @@ pub struct Basis {
 impl Basis {
     /// The basis at these codes, or none unless they are one to six codes of the field in rising order.
     pub fn new<F: Field>(codes: &[u16]) -> Option<Basis>
-        ensures { MatchOption result (admitted arithmetic codes.now ≡ false) (λ b. (admitted arithmetic codes.now ≡ true) × BasisOf arithmetic inverted codes.now b) }
+        ensures { MatchOption result (admitted F.arithmetic codes.now ≡ false) (λ b. (admitted F.arithmetic codes.now ≡ true) × BasisOf F.arithmetic F.inverted codes.now b) }
     {
         if is_admitted::<F>(codes) {
             Some(basis_at::<F>(codes))
@@ -30,8 +30,8 @@ impl Basis {
 
     /// The coefficients, as codes, of the polynomial through the points (a code, the value there), in the first places; none unless the points stand at the basis' codes, in their order.
     pub fn interpolate<F: Field>(&self, points: &[(u16, u16)]) -> Option<[u16; 6]>
-        ensures is { result ≡ answered arithmetic self.now points.now }
-        ensures through { (xs : List ℕ) → BasisOf arithmetic inverted xs self.now → codes_of points.now ≡ xs → Codes arithmetic xs → Distinct xs → Codes arithmetic (values_of points.now) → IsSomeAnd result (Solves arithmetic inverted xs (values_of points.now)) }
+        ensures is { result ≡ answered F.arithmetic self.now points.now }
+        ensures through { (xs : List ℕ) → BasisOf F.arithmetic F.inverted xs self.now → codes_of points.now ≡ xs → Codes F.arithmetic xs → Distinct xs → Codes F.arithmetic (values_of points.now) → IsSomeAnd result (Solves F.arithmetic F.inverted xs (values_of points.now)) }
     {
         if !self.covers(points) {
             return None;
@@ -62,7 +62,7 @@ impl Basis {
 
 /// Whether these are one to six codes of the field in rising order.
 fn is_admitted<F: Field>(codes: &[u16]) -> bool
-    ensures { result ≡ admitted arithmetic codes.now }
+    ensures { result ≡ admitted F.arithmetic codes.now }
 {
     1 <= codes.len() && codes.len() <= MOST && rising(codes, 0, F::order())
 }
@@ -84,7 +84,7 @@ pub fn rising(codes: &[u16], low: u32, high: u32) -> bool
 
 /// The divided difference of two points: what the value gains for each step of the code.
 fn slope<F: Field>(from: (u16, u16), to: (u16, u16)) -> u16
-    ensures { result ≡ divided-difference arithmetic inverted from to }
+    ensures { result ≡ divided-difference F.arithmetic F.inverted from to }
 {
     let run = F::difference(to.0, from.0);
     let rise = F::difference(to.1, from.1);
@@ -94,7 +94,7 @@ fn slope<F: Field>(from: (u16, u16), to: (u16, u16)) -> u16
 /// Each of the values at the codes becomes its divided difference from the point `from`.
 fn to_slopes<F: Field>(from: (u16, u16), codes: &[u16], values: &mut [u16])
     requires { length values.old ≡ length codes.now }
-    ensures { values.new ≡ slopes arithmetic inverted from codes.now values.old }
+    ensures { values.new ≡ slopes F.arithmetic F.inverted from codes.now values.old }
 {
     for i in 0..values.len() {
         values[i] = slope::<F>(from, (codes[i], values[i]));
@@ -103,7 +103,7 @@ fn to_slopes<F: Field>(from: (u16, u16), codes: &[u16], values: &mut [u16])
 
 /// The value v at `x` and the coefficients of Q become the coefficients of v + (X - x) Q, the step after Newton.
 fn lift<F: Field>(x: u16, coefficients: &mut [u16])
-    ensures { coefficients.new ≡ lifted arithmetic x coefficients.old }
+    ensures { coefficients.new ≡ lifted F.arithmetic x coefficients.old }
 {
     for i in 1..coefficients.len() {
         coefficients[i - 1] = F::difference(coefficients[i - 1], F::product(x, coefficients[i]));
@@ -113,7 +113,7 @@ fn lift<F: Field>(x: u16, coefficients: &mut [u16])
 /// The values at the codes become the coefficients of the polynomial that has them.
 fn solve<F: Field>(codes: &[u16], values: &mut [u16])
     requires { length values.old ≡ length codes.now }
-    ensures { values.new ≡ interpolated arithmetic inverted codes.now values.old }
+    ensures { values.new ≡ interpolated F.arithmetic F.inverted codes.now values.old }
 {
     if codes.len() > 0 {
         let x = codes[0];
@@ -128,7 +128,7 @@ fn solve<F: Field>(codes: &[u16], values: &mut [u16])
 /// The row of the Lagrange basis at `j`: the coefficients of the polynomial that is 1 at that code, and 0 at the others.
 fn basis_row<F: Field>(codes: &[u16], j: usize) -> [u16; 6]
     requires { (j < length codes.now) × (length codes.now ≤ 6) }
-    ensures { take (length codes.now) result ≡ interpolated arithmetic inverted codes.now (unit (length codes.now) j) }
+    ensures { take (length codes.now) result ≡ interpolated F.arithmetic F.inverted codes.now (unit (length codes.now) j) }
 {
     let mut row = [0; 6];
     row[j] = 1;
@@ -139,7 +139,7 @@ fn basis_row<F: Field>(codes: &[u16], j: usize) -> [u16; 6]
 /// The rows of the Lagrange basis at the codes.
 fn basis_rows<F: Field>(codes: &[u16]) -> [[u16; 6]; 6]
     requires { length codes.now ≤ 6 }
-    ensures { IsBasis arithmetic inverted codes.now result }
+    ensures { IsBasis F.arithmetic F.inverted codes.now result }
 {
     let mut rows = [[0; 6]; 6];
     for j in 0..codes.len() {
@@ -151,7 +151,7 @@ fn basis_rows<F: Field>(codes: &[u16]) -> [[u16; 6]; 6]
 /// The basis at at most six codes.
 fn basis_at<F: Field>(codes: &[u16]) -> Basis
     requires { length codes.now ≤ 6 }
-    ensures { BasisOf arithmetic inverted codes.now result }
+    ensures { BasisOf F.arithmetic F.inverted codes.now result }
 {
     let mut places = [0; 6];
     for i in 0..codes.len() {
@@ -167,7 +167,7 @@ fn basis_at<F: Field>(codes: &[u16]) -> Basis
 /// The coefficient at `i`: the sum of the values, each times what its row of the basis has there.
 fn coefficient<F: Field>(rows: &[[u16; 6]; 6], points: &[(u16, u16)], i: usize) -> u16
     requires { (i < 6) × (length points.now ≤ 6) }
-    ensures { result ≡ dot arithmetic (values_of points.now) (column i rows.now) }
+    ensures { result ≡ dot F.arithmetic (values_of points.now) (column i rows.now) }
 {
     let mut sum = 0;
     for j in (0..points.len()).rev() {

@@ -20,5 +20,5 @@ returns g c =
     record {
       as_many = refl;
       places = ap (λ n. take n l.places) ended ∙ l.invariant.1 ∙ take_all l.i codes (omega arith);
-      table = c.basis-rows.ensures;
+      table = c.basis_rows.ensures;
     }
