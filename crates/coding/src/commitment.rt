@@ -9,15 +9,15 @@ use shape::Shape;
 
 /// The digest of a board's fragment.
 pub fn digest_of<D: Hash>(_board: u16, fragment: &[u8]) -> [u8; 32]
-    ensures { result ≡ fragment_digest hashes _board fragment.now }
+    ensures { result ≡ fragment_digest D.hashes _board fragment.now }
 {
     D::digest(fragment)
 }
 
 /// Writes the commitment vector of the fragments of all boards. False, with the vector as found, where a length does not fit.
 pub fn commit<F: Field, D: Hash>(shape: Shape, fragments: &[u8], vector: &mut [u8]) -> bool
-    ensures answer { result ≡ vector_fits arithmetic shape fragments.now vector.old }
-    ensures vector { vector.new ≡ (if result then vector_of hashes arithmetic shape fragments.now else vector.old) }
+    ensures answer { result ≡ vector_fits F.arithmetic shape fragments.now vector.old }
+    ensures vector { vector.new ≡ (if result then vector_of D.hashes F.arithmetic shape fragments.now else vector.old) }
 {
     let count = shape.boards();
     if fragments.len() != count * shape.fragment_bytes::<F>()

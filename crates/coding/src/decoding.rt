@@ -26,7 +26,7 @@ pub enum Undecodable {
 
 /// Whether there are fragments of all boards, `boards` are t + 1 in rising order, and a block has `length` bytes.
 fn fits_decoding<F: Field>(shape: Shape, fragments: &[u8], boards: &[u16], block: &[u8]) -> bool
-    ensures { result ≡ decode_fits arithmetic shape fragments.now boards.now block.now }
+    ensures { result ≡ decode_fits F.arithmetic shape fragments.now boards.now block.now }
 {
     let count = shape.boards();
     fragments.len() == count * shape.fragment_bytes::<F>()
@@ -37,8 +37,8 @@ fn fits_decoding<F: Field>(shape: Shape, fragments: &[u8], boards: &[u16], block
 
 /// The fragment of a board among those of all boards.
 pub(crate) fn held_by<'a, F: Field>(shape: Shape, fragments: &'a [u8], board: u16) -> &'a [u8]
-    requires { (length fragments.now ≡ fragments_length arithmetic shape) × ((1 ≤ board) × (board ≤ board_count shape.faults)) }
-    ensures { result.now ≡ held arithmetic shape fragments.now board }
+    requires { (length fragments.now ≡ fragments_length F.arithmetic shape) × ((1 ≤ board) × (board ≤ board_count shape.faults)) }
+    ensures { result.now ≡ held F.arithmetic shape fragments.now board }
 {
     let size = shape.fragment_bytes::<F>();
     let from = (board as usize - 1) * size;
@@ -47,8 +47,8 @@ pub(crate) fn held_by<'a, F: Field>(shape: Shape, fragments: &'a [u8], board: u1
 
 /// Whether the elements of the chosen boards' fragments are codes.
 fn holds_codes<F: Field>(shape: Shape, fragments: &[u8], boards: &[u16]) -> bool
-    requires { (length fragments.now ≡ fragments_length arithmetic shape) × (are_chosen shape boards.now ≡ true) }
-    ensures { Decides result (Sound arithmetic shape fragments.now boards.now) }
+    requires { (length fragments.now ≡ fragments_length F.arithmetic shape) × (are_chosen shape boards.now ≡ true) }
+    ensures { Decides result (Sound F.arithmetic shape fragments.now boards.now) }
 {
     for board in boards {
         if let Some(_) = overrun::<F>(held_by::<F>(shape, fragments, *board)) {
@@ -60,17 +60,17 @@ fn holds_codes<F: Field>(shape: Shape, fragments: &[u8], boards: &[u16]) -> bool
 
 /// Element `i` of a part that has it, and has a code there.
 fn value_in<F: Field>(part: &[u8], i: usize) -> u16
-    requires { (i < length part.now / width arithmetic) × (element arithmetic part.now i < arithmetic.size) }
-    ensures { result ≡ element arithmetic part.now i }
+    requires { (i < length part.now / width F.arithmetic) × (element F.arithmetic part.now i < F.arithmetic.size) }
+    ensures { result ≡ element F.arithmetic part.now i }
 {
     read_element::<F>(part, i).unwrap()
 }
 
 /// The points of row `i`: each chosen board's number, and the value that its fragment has there.
 fn points<F: Field>(shape: Shape, fragments: &[u8], boards: &[u16], i: usize) -> [(u16, u16); 6]
-    requires fragments_len { (length fragments.now ≡ fragments_length arithmetic shape) × ((are_chosen shape boards.now ≡ true) × (i < shape.rows)) }
-    requires sound { Sound arithmetic shape fragments.now boards.now }
-    ensures { take (length boards.now) result ≡ points_of arithmetic shape fragments.now boards.now i }
+    requires fragments_len { (length fragments.now ≡ fragments_length F.arithmetic shape) × ((are_chosen shape boards.now ≡ true) × (i < shape.rows)) }
+    requires sound { Sound F.arithmetic shape fragments.now boards.now }
+    ensures { take (length boards.now) result ≡ points_of F.arithmetic shape fragments.now boards.now i }
 {
     let mut points = [(0, 0); 6];
     for k in 0..boards.len() {
@@ -91,8 +91,8 @@ fn row<F: Field>(
     boards: &[u16],
     i: usize,
 ) -> [u16; 6]
-    requires { (Ready arithmetic inverted shape fragments.now boards.now basis.now) × (i < shape.rows) }
-    ensures { take (length boards.now) result ≡ row_coefficients arithmetic inverted shape fragments.now boards.now i }
+    requires { (Ready F.arithmetic F.inverted shape fragments.now boards.now basis.now) × (i < shape.rows) }
+    ensures { take (length boards.now) result ≡ row_coefficients F.arithmetic F.inverted shape fragments.now boards.now i }
 {
     let points = points::<F>(shape, fragments, boards, i);
     basis.interpolate::<F>(&points[0..boards.len()]).unwrap()
@@ -100,8 +100,8 @@ fn row<F: Field>(
 
 /// Whether every coefficient of every row is a byte.
 fn readable<F: Field>(shape: Shape, basis: &Basis, fragments: &[u8], boards: &[u16]) -> bool
-    requires { Ready arithmetic inverted shape fragments.now boards.now basis.now }
-    ensures { Decides result (Bytes (coefficients arithmetic inverted shape fragments.now boards.now)) }
+    requires { Ready F.arithmetic F.inverted shape fragments.now boards.now basis.now }
+    ensures { Decides result (Bytes (coefficients F.arithmetic F.inverted shape fragments.now boards.now)) }
 {
     for i in 0..shape.rows {
         let row = row::<F>(shape, basis, fragments, boards, i);
@@ -120,9 +120,9 @@ fn write_rows<F: Field>(
     boards: &[u16],
     block: &mut [u8],
 )
-    requires ready { Ready arithmetic inverted shape fragments.now boards.now basis.now }
-    requires bytes { (Bytes (coefficients arithmetic inverted shape fragments.now boards.now)) × (is_block shape block.old ≡ true) }
-    ensures { block.new ≡ coefficients arithmetic inverted shape fragments.now boards.now }
+    requires ready { Ready F.arithmetic F.inverted shape fragments.now boards.now basis.now }
+    requires bytes { (Bytes (coefficients F.arithmetic F.inverted shape fragments.now boards.now)) × (is_block shape block.old ≡ true) }
+    ensures { block.new ≡ coefficients F.arithmetic F.inverted shape fragments.now boards.now }
 {
     let count = boards.len();
     for i in 0..shape.rows {
@@ -139,7 +139,7 @@ pub fn decode<F: Field>(
     boards: &[u16],
     block: &mut [u8],
 ) -> Result<(), Undecodable>
-    ensures { Decodes arithmetic inverted shape fragments.now boards.now block.old result block.new }
+    ensures { Decodes F.arithmetic F.inverted shape fragments.now boards.now block.old result block.new }
 {
     if !fits_decoding::<F>(shape, fragments, boards, block) {
         return Err(Undecodable::Unfit);

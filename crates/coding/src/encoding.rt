@@ -12,9 +12,9 @@ use shape::Shape;
 
 /// Writes, for each of `rows` rows of `k` bytes of the source, its value at `code`. Bytes past the source's end count as zeros.
 fn encode_rows<F: Field>(k: usize, rows: usize, source: &[u8], code: u16, part: &mut [u8])
-    requires k_bound { (k ≤ 6) × (rows ≤ 512) × (length part.old ≡ rows * width arithmetic) }
-    requires by_index { (((i : ℕ) → i < rows → i * k ≤ length source.now)) × ((length source.now ≤ rows * k) × (code < arithmetic.size)) }
-    ensures { part.new ≡ coded arithmetic k rows (filled (rows * k) source.now) code }
+    requires k_bound { (k ≤ 6) × (rows ≤ 512) × (length part.old ≡ rows * width F.arithmetic) }
+    requires by_index { (((i : ℕ) → i < rows → i * k ≤ length source.now)) × ((length source.now ≤ rows * k) × (code < F.arithmetic.size)) }
+    ensures { part.new ≡ coded F.arithmetic k rows (filled (rows * k) source.now) code }
 {
     for i in 0..rows {
         let from = i * k;
@@ -25,16 +25,16 @@ fn encode_rows<F: Field>(k: usize, rows: usize, source: &[u8], code: u16, part: 
 
 /// Writes a board's fragment of a block into its part.
 fn write_fragment<F: Field>(shape: Shape, block: &[u8], board: u16, part: &mut [u8])
-    requires { fragment_fits arithmetic shape block.now board part.old ≡ true }
-    ensures { part.new ≡ fragment_of arithmetic shape block.now board }
+    requires { fragment_fits F.arithmetic shape block.now board part.old ≡ true }
+    ensures { part.new ≡ fragment_of F.arithmetic shape block.now board }
 {
     encode_rows::<F>(shape.row_bytes(), shape.rows, block, board, part);
 }
 
 /// Writes a board's fragment of a block into its part. False, with the part as found, where there is no such board or a length does not fit.
 pub fn encode_fragment<F: Field>(shape: Shape, block: &[u8], board: u16, part: &mut [u8]) -> bool
-    ensures answer { result ≡ fragment_fits arithmetic shape block.now board part.old }
-    ensures part { part.new ≡ (if result then fragment_of arithmetic shape block.now board else part.old) }
+    ensures answer { result ≡ fragment_fits F.arithmetic shape block.now board part.old }
+    ensures part { part.new ≡ (if result then fragment_of F.arithmetic shape block.now board else part.old) }
 {
     if board < 1 || board as usize > shape.boards() {
         return false;
@@ -48,17 +48,17 @@ pub fn encode_fragment<F: Field>(shape: Shape, block: &[u8], board: u16, part: &
 
 /// Writes a board's share of a commitment vector into its part.
 fn write_share<F: Field>(shape: Shape, vector: &[u8], board: u16, part: &mut [u8])
-    requires { share_fits arithmetic shape vector.now board part.old ≡ true }
-    ensures { part.new ≡ share_of arithmetic shape vector.now board }
+    requires { share_fits F.arithmetic shape vector.now board part.old ≡ true }
+    ensures { part.new ≡ share_of F.arithmetic shape vector.now board }
 {
     encode_rows::<F>(shape.row_bytes(), shape.share_rows(), vector, board, part);
 }
 
 /// Writes a board's share of a commitment vector into its part. False, with the part as found, where there is no such board or a length does not fit.
 pub fn encode_share<F: Field>(shape: Shape, vector: &[u8], board: u16, part: &mut [u8]) -> bool
-    ensures answer { result ≡ share_fits arithmetic shape vector.now board part.old }
-    ensures part { part.new ≡ (if result then share_of arithmetic shape vector.now board else part.old) }
-    ensures fixes { SharesFixVectors arithmetic shape.faults }
+    ensures answer { result ≡ share_fits F.arithmetic shape vector.now board part.old }
+    ensures part { part.new ≡ (if result then share_of F.arithmetic shape vector.now board else part.old) }
+    ensures fixes { SharesFixVectors F.arithmetic shape.faults }
 {
     if board < 1 || board as usize > shape.boards() {
         return false;
@@ -72,8 +72,8 @@ pub fn encode_share<F: Field>(shape: Shape, vector: &[u8], board: u16, part: &mu
 
 /// Writes every board's fragment of a block straight into its own part of the front of `memory`, board 1's first. False, with the memory as found, where a length does not fit.
 pub fn encode_fragments<F: Field>(shape: Shape, block: &[u8], memory: &mut [u8]) -> bool
-    ensures answer { result ≡ fragments_fit arithmetic shape block.now memory.old }
-    ensures memory { memory.new ≡ (if result then fragments_of arithmetic shape block.now ++ drop (fragments_length arithmetic shape) memory.old else memory.old) }
+    ensures answer { result ≡ fragments_fit F.arithmetic shape block.now memory.old }
+    ensures memory { memory.new ≡ (if result then fragments_of F.arithmetic shape block.now ++ drop (fragments_length F.arithmetic shape) memory.old else memory.old) }
 {
     let size = shape.fragment_bytes::<F>();
     let count = shape.boards();

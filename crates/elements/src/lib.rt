@@ -1,7 +1,7 @@
 //! Byte strings in pieces of one size: those of a fragment or a share are elements, codes of w bytes each, the high byte first.
 #![tactic(auto)]
 
-ghost use Rattle.std.specs.Prelude.{◌≡◌, ◌+◌, ◌*◌, ◌/◌, ◌<◌, ◌≤◌, ◌&&◌, ltb, length, if◌then◌else◌, Some, None, nat_lt};
+ghost use Rattle.std.specs.Prelude.{◌≡◌, ◌+◌, ◌*◌, ◌/◌, ◌<◌, ◌≤◌, ◌&&◌, length, if◌then◌else◌, Some, None, nat_lt};
 ghost use Rattle.field.specs.Laws.{width};
 ghost use Rattle.elements.specs.Pieces.{piece, put};
 ghost use Rattle.elements.specs.Numbers.{written};
@@ -11,8 +11,8 @@ use field::Field;
 
 /// The number that the bytes of element `i` write, whether it is a code or not.
 fn number_at<F: Field>(part: &[u8], i: usize) -> u16
-    requires { i * width arithmetic + width arithmetic ≤ length part.now }
-    ensures { result ≡ element arithmetic part.now i }
+    requires { i * width F.arithmetic + width F.arithmetic ≤ length part.now }
+    ensures { result ≡ element F.arithmetic part.now i }
 {
     if F::element_width() == 1 {
         part[i] as u16
@@ -23,8 +23,8 @@ fn number_at<F: Field>(part: &[u8], i: usize) -> u16
 
 /// Writes `value` as element `i`.
 fn put_number<F: Field>(part: &mut [u8], i: usize, value: u16)
-    requires { i * width arithmetic + width arithmetic ≤ length part.old }
-    ensures { part.new ≡ put part.old (i * width arithmetic) (written (width arithmetic) value) }
+    requires { i * width F.arithmetic + width F.arithmetic ≤ length part.old }
+    ensures { part.new ≡ put part.old (i * width F.arithmetic) (written (width F.arithmetic) value) }
 {
     if F::element_width() == 1 {
         part[i] = (value % 256) as u8;
@@ -36,7 +36,7 @@ fn put_number<F: Field>(part: &mut [u8], i: usize, value: u16)
 
 /// Element `i` of a part, or none where the part has no such element or its number is not a code.
 pub fn read_element<F: Field>(part: &[u8], i: usize) -> Option<u16>
-    ensures { result ≡ (if ltb i (length part.now / width arithmetic) && nat_lt (element arithmetic part.now i) arithmetic.size then Some (element arithmetic part.now i) else None) }
+    ensures { result ≡ (if nat_lt i (length part.now / width F.arithmetic) && nat_lt (element F.arithmetic part.now i) F.arithmetic.size then Some (element F.arithmetic part.now i) else None) }
 {
     if i >= part.len() / F::element_width() {
         return None;
@@ -51,8 +51,8 @@ pub fn read_element<F: Field>(part: &[u8], i: usize) -> Option<u16>
 
 /// Writes `value` as element `i` of a part; false, and the part left as found, where the part has no such element or `value` is not a code.
 pub fn write_element<F: Field>(part: &mut [u8], i: usize, value: u16) -> bool
-    ensures answer { result ≡ (nat_lt i (length part.old / width arithmetic) && nat_lt value arithmetic.size) }
-    ensures part { part.new ≡ (if result then put part.old (i * width arithmetic) (written (width arithmetic) value) else part.old) }
+    ensures answer { result ≡ (nat_lt i (length part.old / width F.arithmetic) && nat_lt value F.arithmetic.size) }
+    ensures part { part.new ≡ (if result then put part.old (i * width F.arithmetic) (written (width F.arithmetic) value) else part.old) }
 {
     if i >= part.len() / F::element_width() || u32::from(value) >= F::order() {
         return false;
@@ -63,7 +63,7 @@ pub fn write_element<F: Field>(part: &mut [u8], i: usize, value: u16) -> bool
 
 /// The first element of a part whose number is not a code, or none where all are codes.
 pub fn overrun<F: Field>(part: &[u8]) -> Option<usize>
-    ensures { FirstOverrun arithmetic part.now (length part.now / width arithmetic) result }
+    ensures { FirstOverrun F.arithmetic part.now (length part.now / width F.arithmetic) result }
 {
     for i in 0..part.len() / F::element_width() {
         if u32::from(number_at::<F>(part, i)) >= F::order() {

@@ -58,7 +58,7 @@ pub fn digest_count(shape: Shape, kind: Kind) -> usize
 
 /// How many bytes a frame of a kind has after its digests.
 pub fn payload_bytes<F: Field>(shape: Shape, kind: Kind) -> usize
-    ensures is { result ≡ bytes arithmetic shape kind }
+    ensures is { result ≡ bytes F.arithmetic shape kind }
     ensures few { result ≤ 1024 }
 {
     match kind {
@@ -70,7 +70,7 @@ pub fn payload_bytes<F: Field>(shape: Shape, kind: Kind) -> usize
 
 /// The length of a frame of a kind.
 pub fn frame_bytes<F: Field>(shape: Shape, kind: Kind) -> usize
-    ensures { result ≡ frame_length arithmetic shape kind }
+    ensures { result ≡ frame_length F.arithmetic shape kind }
 {
     5 + 32 * digest_count(shape, kind) + payload_bytes::<F>(shape, kind)
 }

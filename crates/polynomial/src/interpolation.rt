@@ -1,7 +1,7 @@
 //! The polynomial through given points, by divided differences after Newton, and for many rows by a Lagrange basis.
 ghost use Rattle.std.specs.Prelude.{◌≡◌, ℕ, ◌<◌, ◌≤◌, true, false, List, length, take, IsSomeAnd, MatchOption};
 ghost use Rattle.polynomial.specs.Interpolation.{admitted, answered, codes_of, rising as is-rising, stands_at, values_of, BasisOf, Solves};
-ghost use Rattle.polynomial.specs.Polynomial.{column, dot, interpolated, lifted, slope as divided-difference, slopes, unit, Codes, Distinct, IsBasis};
+ghost use Rattle.polynomial.specs.Polynomial.{column, dot, interpolated, lifted, slope as divided_difference, slopes, unit, Codes, Distinct, IsBasis};
 
 use field::Field;
 
@@ -84,7 +84,7 @@ pub fn rising(codes: &[u16], low: u32, high: u32) -> bool
 
 /// The divided difference of two points: what the value gains for each step of the code.
 fn slope<F: Field>(from: (u16, u16), to: (u16, u16)) -> u16
-    ensures { result ≡ divided-difference F.arithmetic F.inverted from to }
+    ensures { result ≡ divided_difference F.arithmetic F.inverted from to }
 {
     let run = F::difference(to.0, from.0);
     let rise = F::difference(to.1, from.1);

@@ -92,7 +92,7 @@ fn frame_of<'a>(kind: Kind, sender: u8, vector: &'a [u8], payload: &'a [u8]) -> 
 
 /// Reads the layout of a frame: the first kind, sender, count or end that its kind does not allow makes it torn. Elements are not looked at.
 pub fn read<F: Field>(shape: Shape, frame: &[u8]) -> Result<Frame, FrameFault>
-    ensures is { told result ≡ reads arithmetic shape frame.now }
+    ensures is { told result ≡ reads F.arithmetic shape frame.now }
     ensures back { WritesBack result frame.now }
 {
     let (kind, sender, rest) = front(shape, frame)?;
@@ -103,7 +103,7 @@ pub fn read<F: Field>(shape: Shape, frame: &[u8]) -> Result<Frame, FrameFault>
 
 /// Checks that the elements of a frame are codes.
 pub fn check<F: Field>(shape: Shape, frame: Frame) -> Result<(), FieldFault>
-    ensures { result ≡ checked arithmetic shape (message frame.entry) }
+    ensures { result ≡ checked F.arithmetic shape (message frame.entry) }
 {
     let kind = frame.kind();
     let section = piece_at(frame.payload(), payload_bytes::<F>(shape, kind), 0);
@@ -117,7 +117,7 @@ pub fn check<F: Field>(shape: Shape, frame: Frame) -> Result<(), FieldFault>
 
 /// Reads a frame and checks its elements: torn goes before overrun.
 pub fn read_checked<F: Field>(shape: Shape, frame: &[u8]) -> Result<Frame, FrameFault>
-    ensures { told result ≡ reads_checked arithmetic shape frame.now }
+    ensures { told result ≡ reads_checked F.arithmetic shape frame.now }
 {
     let read = read::<F>(shape, frame)?;
     check::<F>(shape, read)?;

@@ -13,6 +13,6 @@ use shape::Shape;
 
 /// The laws that the protocol asks for hold over every field and every hash, whatever the shape and the number of fetchers, and so do its promises.
 pub fn lawful<F: Field, D: Hash>(_shape: Shape)
-    ensures laws { (f : ℕ) → Laws (setting arithmetic inverted hashes _shape.faults _shape.rows f) }
-    ensures promises { (f : ℕ) (log : Log) → Valid (setting arithmetic inverted hashes _shape.faults _shape.rows f) log → Promises (setting arithmetic inverted hashes _shape.faults _shape.rows f) log }
+    ensures laws { (f : ℕ) → Laws (setting F.arithmetic F.inverted D.hashes _shape.faults _shape.rows f) }
+    ensures promises { (f : ℕ) (log : Log) → Valid (setting F.arithmetic F.inverted D.hashes _shape.faults _shape.rows f) log → Promises (setting F.arithmetic F.inverted D.hashes _shape.faults _shape.rows f) log }
 {}

@@ -52,7 +52,7 @@ impl Shape {
 
     /// S, the bytes of a fragment.
     pub fn fragment_bytes<F: Field>(self) -> usize
-        ensures { result ≡ fragment_length (width arithmetic) self.rows }
+        ensures { result ≡ fragment_length (width F.arithmetic) self.rows }
     {
         self.rows * F::element_width()
     }
@@ -73,7 +73,7 @@ impl Shape {
 
     /// G, the bytes of a share.
     pub fn share_bytes<F: Field>(self) -> usize
-        ensures { result ≡ share_length (width arithmetic) self.faults }
+        ensures { result ≡ share_length (width F.arithmetic) self.faults }
     {
         self.share_rows() * F::element_width()
     }

@@ -62,7 +62,7 @@ pub(crate) fn keep<F: Field, D: Hash>(
 
 /// Whether a fragment's digest is its board's entry of the vector.
 fn matches<D: Hash>(entry: &[u8], board: u16, fragment: &[u8]) -> bool
-    ensures { Decides result (entry.now ≡ fragment_digest hashes board fragment.now) }
+    ensures { Decides result (entry.now ≡ fragment_digest D.hashes board fragment.now) }
 {
     entry == digest_of::<D>(board, fragment)
 }

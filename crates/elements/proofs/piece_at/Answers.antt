@@ -14,7 +14,7 @@ returns c =
     let is : rest ≡ drop (c.args.i * size) bytes =
     take_rest bytes from
     ∙ ap (λ k. drop k bytes) c.min.ensures
-    ∙ drop_min bytes c.saturating-mul.result
-    ∙ ap (λ k. drop k bytes) c.saturating-mul.ensures
+    ∙ drop_min bytes c.saturating_mul.result
+    ∙ ap (λ k. drop k bytes) c.saturating_mul.ensures
     ∙ drop_bounded bytes (c.args.i * size) (2 ^ 64 - 1) short in
     ap (λ k. take k rest) (sub-zero c.min-2.result ∙ c.min-2.ensures) ∙ take_min rest size ∙ ap (take size) is

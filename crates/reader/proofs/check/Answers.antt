@@ -21,11 +21,11 @@ looked R s m k x part w o ek ex ew ep f =
 
 pub returns-in-None : goal.returns-in-None
 returns-in-None g c =
-    looked g.F.Field.arithmetic c.args.shape (message c.args.frame) c.kind-kind.result c.payload.result.now c.piece-at-section.result.now c.payload-bytes.result None
-    c.kind-kind.ensures c.payload.ensures c.payload-bytes.ensures.is c.piece-at-section.ensures c.in-None.ensures
+    looked g.F.Field.arithmetic c.args.shape (message c.args.frame) c.kind-kind.result c.payload.result.now c.piece_at-section.result.now c.payload_bytes.result None
+    c.kind-kind.ensures c.payload.ensures c.payload_bytes.ensures.is c.piece_at-section.ensures c.in-None.ensures
 
 pub returns-in-Some : goal.returns-in-Some
 returns-in-Some g c =
-    ap₂ (λ d w. Err (record { place = 5 + 32 * d + c.in-Some.i * w })) c.digest-count.ensures.is c.element-width.ensures
-    ∙ looked g.F.Field.arithmetic c.args.shape (message c.args.frame) c.kind-kind.result c.payload.result.now c.piece-at-section.result.now c.payload-bytes.result (Some c.in-Some.i)
-    c.kind-kind.ensures c.payload.ensures c.payload-bytes.ensures.is c.piece-at-section.ensures c.in-Some.ensures
+    ap₂ (λ d w. Err (record { place = 5 + 32 * d + c.in-Some.i * w })) c.digest_count.ensures.is c.element_width.ensures
+    ∙ looked g.F.Field.arithmetic c.args.shape (message c.args.frame) c.kind-kind.result c.payload.result.now c.piece_at-section.result.now c.payload_bytes.result (Some c.in-Some.i)
+    c.kind-kind.ensures c.payload.ensures c.payload_bytes.ensures.is c.piece_at-section.ensures c.in-Some.ensures

@@ -18,8 +18,8 @@ returns g c =
     let x = c.in-ok-vector.payload.now in
     let f = c.in-ok-kind.ensures in
     let is : sectioned (32 * digests s k) (bytes R s k) rest ≡ Ok (v, x) =
-    ap₂ (λ d w. sectioned (32 * d) w rest) (sym c.digest-count-digests.ensures.is) (sym c.payload-bytes.ensures.is) ∙ c.in-ok-vector.ensures in
-    let told = c.frame-of.ensures in
+    ap₂ (λ d w. sectioned (32 * d) w rest) (sym c.digest_count-digests.ensures.is) (sym c.payload_bytes.ensures.is) ∙ c.in-ok-vector.ensures in
+    let told = c.frame_of.ensures in
     record {
       is = ap Ok told ∙ sym (to_sections R s b k i rest f ∙ ap (onto k i) is);
       back = ap encode told ∙ writes_back R s b k i rest v x f (sectioned_is (32 * digests s k) (bytes R s k) rest v x is) (λ j. omega (arith, (c.type-inv.frame j).fits));

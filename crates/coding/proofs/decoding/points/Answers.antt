@@ -7,11 +7,11 @@ use Rattle.coding.specs.Decoding.{held, points_of}
 use Rattle.coding.proofs.Selected.{chosen_at, chosen_many, held_elements, points_more}
 use Rattle.coding.proofs.decoding.points.Goals as goal
 
-pub held-by-requires : goal.held-by-requires
-held-by-requires g c = (c.requires.0.0, chosen_at c.args.shape c.args.boards.now c.requires.0.1.0 c.loop-k.k c.loop-k-test.true)
+pub held_by-requires : goal.held_by-requires
+held_by-requires g c = (c.requires.0.0, chosen_at c.args.shape c.args.boards.now c.requires.0.1.0 c.loop-k.k c.loop-k-test.true)
 
-pub value-in-requires : goal.value-in-requires
-value-in-requires g c =
+pub value_in-requires : goal.value_in-requires
+value_in-requires g c =
     let R = g.F.Field.arithmetic in
     let s = c.args.shape in
     let xs = c.args.fragments.now in
@@ -20,8 +20,8 @@ value-in-requires g c =
     let b = chosen_at s js c.requires.0.1.0 c.loop-k.k c.loop-k-test.true in
     let count = held_elements R s xs c.requires.0.0 j b.0 b.1 in
     let code = All-get_or (λ j. Elements R (held R s xs j) s.rows) js c.loop-k.k 0 c.loop-k-test.true c.requires.1 c.args.i c.requires.0.1.1 in (
-      subst (λ x. c.args.i < length x / width R) (sym c.held-by.ensures) (omega arith),
-      subst (λ x. element R x c.args.i < R.size) (sym c.held-by.ensures) code,
+      subst (λ x. c.args.i < length x / width R) (sym c.held_by.ensures) (omega arith),
+      subst (λ x. element R x c.args.i < R.size) (sym c.held_by.ensures) code,
     )
 
 pub loop-k-preserved : goal.loop-k-preserved
@@ -30,9 +30,9 @@ loop-k-preserved g c =
     let s = c.args.shape in
     let k = c.loop-k.k in
     let many = chosen_many s c.args.boards.now c.requires.0.1.0 in (
-      length-set c.loop-k.points k (get_or c.args.boards.now k 0, c.value-in.result) ∙ c.loop-k.invariant.0,
-      points_more R s c.args.fragments.now c.args.boards.now c.args.i k c.value-in.result c.loop-k.points c.loop-k-test.true
-          (omega (arith, c.loop-k.invariant.0, many, s.range.1)) c.loop-k.invariant.1 (c.value-in.ensures ∙ ap (λ x. element R x c.args.i) c.held-by.ensures),
+      length-set c.loop-k.points k (get_or c.args.boards.now k 0, c.value_in.result) ∙ c.loop-k.invariant.0,
+      points_more R s c.args.fragments.now c.args.boards.now c.args.i k c.value_in.result c.loop-k.points c.loop-k-test.true
+          (omega (arith, c.loop-k.invariant.0, many, s.range.1)) c.loop-k.invariant.1 (c.value_in.ensures ∙ ap (λ x. element R x c.args.i) c.held_by.ensures),
     )
 
 pub returns : goal.returns

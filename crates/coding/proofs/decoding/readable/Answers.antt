@@ -10,8 +10,8 @@ use Rattle.coding.proofs.decoding.readable.Goals as goal
 pub loop-i-init : goal.loop-i-init
 loop-i-init g c = rows_bytes_none g.F.Field.arithmetic g.F.Field.inverted c.args.shape c.args.fragments.now c.args.boards.now
 
-pub returns-then-not-are-bytes : goal.returns-then-not-are-bytes
-returns-then-not-are-bytes g c =
+pub returns-then-not-are_bytes : goal.returns-then-not-are_bytes
+returns-then-not-are_bytes g c =
     let R = g.F.Field.arithmetic in
     let inv = g.F.Field.inverted in
     let s = c.args.shape in
@@ -19,8 +19,8 @@ returns-then-not-are-bytes g c =
     let js = c.args.boards.now in
     let i = c.loop-i.i in
     decided_not (Bytes (coefficients R inv s xs js))
-    (λ all. both_ways c.are-bytes.result c.if-not-are-bytes.true
-    (c.are-bytes.ensures.1 (subst Bytes (sym (first_places R inv s xs js c.row-row.result i c.row-row.ensures)) (row-bytes R inv s xs js i (omega arith) all))))
+    (λ all. both_ways c.are_bytes.result c.if-not-are_bytes.true
+    (c.are_bytes.ensures.1 (subst Bytes (sym (first_places R inv s xs js c.row-row.result i c.row-row.ensures)) (row_bytes R inv s xs js i (omega arith) all))))
 
 pub loop-i-preserved : goal.loop-i-preserved
 loop-i-preserved g c =
@@ -30,7 +30,7 @@ loop-i-preserved g c =
     let xs = c.args.fragments.now in
     let js = c.args.boards.now in
     rows_bytes_more R inv s xs js c.loop-i.i c.loop-i.invariant
-    (subst Bytes (first_places R inv s xs js c.row-row.result c.loop-i.i c.row-row.ensures) (c.are-bytes.ensures.0 c.if-not-are-bytes.false))
+    (subst Bytes (first_places R inv s xs js c.row-row.result c.loop-i.i c.row-row.ensures) (c.are_bytes.ensures.0 c.if-not-are_bytes.false))
 
 pub returns : goal.returns
 returns g c =

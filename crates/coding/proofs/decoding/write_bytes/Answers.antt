@@ -3,8 +3,8 @@ use Rattle.std.proofs.ByRecursion.{All-get_or}
 use Rattle.std.proofs.lemmas.List.{take_more, take_more_set, take_all}
 use Rattle.coding.proofs.decoding.write_bytes.Goals as goal
 
-pub overflow-cast-part : goal.overflow-cast-part
-overflow-cast-part c = let small = All-get_or (λ b. b < 256) c.args.codes.now c.loop-i.i 0 c.loop-i-test.true c.requires.0 in search rules
+pub overflow_cast-part : goal.overflow_cast-part
+overflow_cast-part c = let small = All-get_or (λ b. b < 256) c.args.codes.now c.loop-i.i 0 c.loop-i-test.true c.requires.0 in search rules
 
 pub loop-i-preserved : goal.loop-i-preserved
 loop-i-preserved c =

@@ -14,16 +14,16 @@ use Rattle.coding.proofs.decoding.write_rows.Goals as goal
 pub loop-i-init : goal.loop-i-init
 loop-i-init g c = laid_start (row_coefficients g.F.Field.arithmetic g.F.Field.inverted c.args.shape c.args.fragments.now c.args.boards.now) (length c.args.boards.now) c.args.block.now
 
-pub slice-bounds-write-bytes-end-in-loop-i : goal.slice-bounds-write-bytes-end-in-loop-i
-slice-bounds-write-bytes-end-in-loop-i g c =
+pub slice_bounds-write_bytes-end-in-loop-i : goal.slice_bounds-write_bytes-end-in-loop-i
+slice_bounds-write_bytes-end-in-loop-i g c =
     let js = c.args.boards.now in
     let long = block_long c.args.shape js c.requires.0.chosen c.args.block.now c.requires.1.1 in
     let e = piece_end c.loop-i.i c.args.shape.rows (length js) (omega arith) in
     let h : c.loop-i.i * length js + length js ≤ length c.loop-i.block = omega arith in
     search rules
 
-pub write-bytes-requires : goal.write-bytes-requires
-write-bytes-requires g c =
+pub write_bytes-requires : goal.write_bytes-requires
+write_bytes-requires g c =
     let R = g.F.Field.arithmetic in
     let inv = g.F.Field.inverted in
     let s = c.args.shape in
@@ -35,7 +35,7 @@ write-bytes-requires g c =
     let e = piece_end i s.rows k (omega arith) in
     let first = first_places R inv s xs js c.row-row.result i c.row-row.ensures in
     let n : i * k + k - i * k ≡ k = omega arith in (
-      subst Bytes (sym first) (row-bytes R inv s xs js i (omega arith) c.requires.1.0),
+      subst Bytes (sym first) (row_bytes R inv s xs js i (omega arith) c.requires.1.0),
       length-between c.loop-i.block (i * k) (i * k + k) (omega arith) ∙ n ∙ sym (ap length first ∙ row_long R inv s xs js i),
     )
 
@@ -51,8 +51,8 @@ loop-i-preserved g c =
     let long = block_long s js c.requires.0.chosen c.args.block.now c.requires.1.1 in
     let e = piece_end i s.rows k (omega arith) in
     let n : i * k + k - i * k ≡ k = omega arith in
-    laid_part (row_coefficients R inv s xs js) k i (i * k + k - i * k) c.args.block.now c.loop-i.block c.write-bytes.new.part
-    (row_long R inv s xs js) (omega arith) n c.loop-i.invariant (c.write-bytes.ensures ∙ first_places R inv s xs js c.row-row.result i c.row-row.ensures)
+    laid_part (row_coefficients R inv s xs js) k i (i * k + k - i * k) c.args.block.now c.loop-i.block c.write_bytes.new.part
+    (row_long R inv s xs js) (omega arith) n c.loop-i.invariant (c.write_bytes.ensures ∙ first_places R inv s xs js c.row-row.result i c.row-row.ensures)
 
 pub returns : goal.returns
 returns g c =

@@ -7,15 +7,15 @@ use Rattle.coding.proofs.Fits.{fitting}
 use Rattle.elements.proofs.Pieces.{piece_end}
 use Rattle.coding.proofs.encoding.write_fragment.Goals as goal
 
-pub encode-rows-requires : goal.encode-rows-requires
-encode-rows-requires g c =
+pub encode_rows-requires : goal.encode_rows-requires
+encode_rows-requires g c =
     let s = c.args.shape in
     let R = g.F.Field.arithmetic in
     let f = fitting R s c.args.block.now c.args.board c.args.part.now c.requires in
-    let k = ap (λ n. s.rows * n) c.row-bytes.ensures in (
-      (omega (arith, c.row-bytes.ensures, s.range.1), omega (arith, s.range.3), f.part_long),
+    let k = ap (λ n. s.rows * n) c.row_bytes.ensures in (
+      (omega (arith, c.row_bytes.ensures, s.range.1), omega (arith, s.range.3), f.part_long),
       (
-        (λ i h. omega (arith, piece_end i s.rows c.row-bytes.result h, k, f.block_long)),
+        (λ i h. omega (arith, piece_end i s.rows c.row_bytes.result h, k, f.block_long)),
         (omega (arith, k, f.block_long), omega (arith, f.most, s.range.1, g.met.F.Field.laws.ring.least)),
       ),
     )
@@ -26,6 +26,6 @@ returns g c =
     let R = g.F.Field.arithmetic in
     let block = c.args.block.now in
     let f = fitting R s block c.args.board c.args.part.now c.requires in
-    c.encode-rows.ensures
-    ∙ ap (λ k. coded R k s.rows (filled (s.rows * k) block) c.args.board) c.row-bytes.ensures
+    c.encode_rows.ensures
+    ∙ ap (λ k. coded R k s.rows (filled (s.rows * k) block) c.args.board) c.row_bytes.ensures
     ∙ ap (λ xs. coded R (row_length s.faults) s.rows xs c.args.board) (filled_whole (s.rows * row_length s.faults) block (omega (arith, f.block_long)))

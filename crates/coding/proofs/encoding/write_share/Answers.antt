@@ -7,16 +7,16 @@ use Rattle.coding.proofs.Fits.{fitting-share}
 use Rattle.coding.proofs.Sizes.{share-row-starts, share_rows_enough, share_rows_few}
 use Rattle.coding.proofs.encoding.write_share.Goals as goal
 
-pub encode-rows-requires : goal.encode-rows-requires
-encode-rows-requires g c =
+pub encode_rows-requires : goal.encode_rows-requires
+encode_rows-requires g c =
     let s = c.args.shape in
     let R = g.F.Field.arithmetic in
     let f = fitting-share R s c.args.vector.now c.args.board c.args.part.now c.requires in
-    let k = c.row-bytes.ensures in
+    let k = c.row_bytes.ensures in
     let q = c.share_rows.ensures in
     let few = share_rows_few s.faults s.range.0 s.range.1 in
     let enough = share_rows_enough s.faults in
-    let product = ap (λ n. n * c.row-bytes.result) q ∙ ap (λ n. share_rows s.faults * n) k in (
+    let product = ap (λ n. n * c.row_bytes.result) q ∙ ap (λ n. share_rows s.faults * n) k in (
       (omega (arith, k, s.range.1), omega (arith, q, few), f.part_long ∙ ap (λ n. n * width R) (sym q)),
       (
         (λ i h. subst (λ n. i * n ≤ length c.args.vector.now) (sym k) (omega (arith, share-row-starts s.faults i (omega (arith, q, h)), f.vector_long))),
@@ -29,6 +29,6 @@ returns g c =
     let R = g.F.Field.arithmetic in
     let s = c.args.shape in
     let v = c.args.vector.now in
-    c.encode-rows.ensures
-    ∙ ap (λ k. coded R k c.share_rows.result (filled (c.share_rows.result * k) v) c.args.board) c.row-bytes.ensures
+    c.encode_rows.ensures
+    ∙ ap (λ k. coded R k c.share_rows.result (filled (c.share_rows.result * k) v) c.args.board) c.row_bytes.ensures
     ∙ ap (λ q. coded R (row_length s.faults) q (filled (q * row_length s.faults) v) c.args.board) c.share_rows.ensures

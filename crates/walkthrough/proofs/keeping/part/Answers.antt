@@ -6,6 +6,6 @@ use Rattle.walkthrough.proofs.keeping.part.Goals as goal
 pub returns : goal.returns
 returns c =
     let parts = c.args.parts.now in
-    let place : c.saturating-sub.result ≡ c.args.board - 1 = c.saturating-sub.ensures ∙ ap (λ n. n - 1) c.from.ensures in
+    let place : c.saturating_sub.result ≡ c.args.board - 1 = c.saturating_sub.ensures ∙ ap (λ n. n - 1) c.from.ensures in
     c.first.ensures
-    ∙ ap (take c.args.size) (take_rest parts c.min.result ∙ ap (λ n. drop n parts) c.min.ensures ∙ drop_min parts (c.saturating-sub.result * c.args.size) ∙ ap (λ n. drop (n * c.args.size) parts) place)
+    ∙ ap (take c.args.size) (take_rest parts c.min.result ∙ ap (λ n. drop n parts) c.min.ensures ∙ drop_min parts (c.saturating_sub.result * c.args.size) ∙ ap (λ n. drop (n * c.args.size) parts) place)
