@@ -68,7 +68,7 @@ fn value_in<F: Field>(part: &[u8], i: usize) -> u16
 
 /// The points of row `i`: each chosen board's number, and the value that its fragment has there.
 fn points<F: Field>(shape: Shape, fragments: &[u8], boards: &[u16], i: usize) -> [(u16, u16); 6]
-    requires fragments_len { (length fragments.now ≡ fragments_length F.arithmetic shape) × ((are_chosen shape boards.now ≡ true) × (i < shape.rows)) }
+    requires fits { (length fragments.now ≡ fragments_length F.arithmetic shape) × ((are_chosen shape boards.now ≡ true) × (i < shape.rows)) }
     requires sound { Sound F.arithmetic shape fragments.now boards.now }
     ensures { take (length boards.now) result ≡ points_of F.arithmetic shape fragments.now boards.now i }
 {

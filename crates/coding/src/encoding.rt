@@ -12,8 +12,8 @@ use shape::Shape;
 
 /// Writes, for each of `rows` rows of `k` bytes of the source, its value at `code`. Bytes past the source's end count as zeros.
 fn encode_rows<F: Field>(k: usize, rows: usize, source: &[u8], code: u16, part: &mut [u8])
-    requires k_bound { (k ≤ 6) × (rows ≤ 512) × (length part.old ≡ rows * width F.arithmetic) }
-    requires by_index { (((i : ℕ) → i < rows → i * k ≤ length source.now)) × ((length source.now ≤ rows * k) × (code < F.arithmetic.size)) }
+    requires sizes { (k ≤ 6) × (rows ≤ 512) × (length part.old ≡ rows * width F.arithmetic) }
+    requires source { (((i : ℕ) → i < rows → i * k ≤ length source.now)) × ((length source.now ≤ rows * k) × (code < F.arithmetic.size)) }
     ensures { part.new ≡ coded F.arithmetic k rows (filled (rows * k) source.now) code }
 {
     for i in 0..rows {

@@ -20,7 +20,7 @@ loop-i-preserved g c =
     let i = c.loop-i.i in
     let n : i * 32 + 32 - i * 32 ≡ 32 = omega arith in
     laid_part (λ i. fragment_digest hash (i + 1) (held R s xs (i + 1))) 32 i (i * 32 + 32 - i * 32) c.args.vector.now c.loop-i.vector c.copy_from_slice.new.self
-    (λ i. entry_long hash g.met.D.Hash.sound R s xs (λ k. omega (arith, (c.type-inv.fragments k).fits)) (i + 1)) (omega arith) n c.loop-i.invariant
+    (λ i. entry_long hash g.met.D.Hash.sound R s xs (λ k. omega (arith, c.type_inv.fragments k)) (i + 1)) (omega arith) n c.loop-i.invariant
     (c.copy_from_slice.ensures.after ∙ c.digest_of-digest.ensures ∙ ap hash c.held_by.ensures)
 
 pub returns : goal.returns

@@ -44,10 +44,10 @@ returns-then-not-readable g c =
 
 pub write_rows-requires : goal.write_rows-requires
 write_rows-requires g c =
-    let t = tested g.F.Field.arithmetic c.args.shape c.args.fragments.now c.args.boards.now c.args.block.now (sym c.if-not-fits_decoding.ensures) in (
-      ready g.met.F.Field.laws c.args.block.now (sym c.if-not-fits_decoding.ensures) (c.holds_codes.ensures.0 c.if-not-holds_codes.false) c.new.result c.new.ensures c.unwrap-basis.ensures,
-      (c.readable.ensures.0 c.if-not-readable.false, t.block_fits),
-    )
+    let t = tested g.F.Field.arithmetic c.args.shape c.args.fragments.now c.args.boards.now c.args.block.now (sym c.if-not-fits_decoding.ensures) in (record {
+      ready = ready g.met.F.Field.laws c.args.block.now (sym c.if-not-fits_decoding.ensures) (c.holds_codes.ensures.0 c.if-not-holds_codes.false) c.new.result c.new.ensures c.unwrap-basis.ensures;
+      bytes = (c.readable.ensures.0 c.if-not-readable.false, t.block_fits);
+    })
 
 pub returns : goal.returns
 returns g c =

@@ -15,7 +15,7 @@ returns-in-Some g c =
 pub loop-board-preserved : goal.loop-board-preserved
 loop-board-preserved g c =
     sound_at g.F.Field.arithmetic c.args.shape c.args.fragments.now c.requires.0 c.args.boards.now c.requires.1
-    c.loop-board.board-index c.loop-board-test.true c.held_by.result.now c.held_by.ensures c.in-default.ensures c.loop-board.invariant
+    c.loop-board.board-index c.loop-board-test.true c.held_by.result.now c.held_by.ensures c.in_default.ensures c.loop-board.invariant
 
 pub returns : goal.returns
 returns g c =

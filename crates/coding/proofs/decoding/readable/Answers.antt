@@ -20,7 +20,7 @@ returns-then-not-are_bytes g c =
     let i = c.loop-i.i in
     decided_not (Bytes (coefficients R inv s xs js))
     (λ all. both_ways c.are_bytes.result c.if-not-are_bytes.true
-    (c.are_bytes.ensures.1 (subst Bytes (sym (first_places R inv s xs js c.row-row.result i c.row-row.ensures)) (row_bytes R inv s xs js i (omega arith) all))))
+    (c.are_bytes.ensures.1 (subst Bytes (sym (first_places R inv s xs js c.row-row.result i c.row-row.ensures)) (row-bytes R inv s xs js i (omega arith) all))))
 
 pub loop-i-preserved : goal.loop-i-preserved
 loop-i-preserved g c =

@@ -17,7 +17,7 @@ loop-i-init g c = laid_start (row_coefficients g.F.Field.arithmetic g.F.Field.in
 pub slice_bounds-write_bytes-end-in-loop-i : goal.slice_bounds-write_bytes-end-in-loop-i
 slice_bounds-write_bytes-end-in-loop-i g c =
     let js = c.args.boards.now in
-    let long = block_long c.args.shape js c.requires.0.chosen c.args.block.now c.requires.1.1 in
+    let long = block_long c.args.shape js c.requires.ready.chosen c.args.block.now c.requires.bytes.1 in
     let e = piece_end c.loop-i.i c.args.shape.rows (length js) (omega arith) in
     let h : c.loop-i.i * length js + length js ≤ length c.loop-i.block = omega arith in
     search rules
@@ -31,11 +31,11 @@ write_bytes-requires g c =
     let js = c.args.boards.now in
     let i = c.loop-i.i in
     let k = length js in
-    let long = block_long s js c.requires.0.chosen c.args.block.now c.requires.1.1 in
+    let long = block_long s js c.requires.ready.chosen c.args.block.now c.requires.bytes.1 in
     let e = piece_end i s.rows k (omega arith) in
     let first = first_places R inv s xs js c.row-row.result i c.row-row.ensures in
     let n : i * k + k - i * k ≡ k = omega arith in (
-      subst Bytes (sym first) (row_bytes R inv s xs js i (omega arith) c.requires.1.0),
+      subst Bytes (sym first) (row-bytes R inv s xs js i (omega arith) c.requires.bytes.0),
       length-between c.loop-i.block (i * k) (i * k + k) (omega arith) ∙ n ∙ sym (ap length first ∙ row_long R inv s xs js i),
     )
 
@@ -48,7 +48,7 @@ loop-i-preserved g c =
     let js = c.args.boards.now in
     let i = c.loop-i.i in
     let k = length js in
-    let long = block_long s js c.requires.0.chosen c.args.block.now c.requires.1.1 in
+    let long = block_long s js c.requires.ready.chosen c.args.block.now c.requires.bytes.1 in
     let e = piece_end i s.rows k (omega arith) in
     let n : i * k + k - i * k ≡ k = omega arith in
     laid_part (row_coefficients R inv s xs js) k i (i * k + k - i * k) c.args.block.now c.loop-i.block c.write_bytes.new.part
@@ -62,7 +62,7 @@ returns g c =
     let js = c.args.boards.now in
     let block = c.args.block.now in
     let end : c.loop-i.i ≡ s.rows = omega arith in
-    let long = block_long s js c.requires.0.chosen block c.requires.1.1 in
+    let long = block_long s js c.requires.ready.chosen block c.requires.bytes.1 in
     c.loop-i.invariant
     ∙ ap (λ n. decoded R inv n js (held R s c.args.fragments.now) ++ drop (n * length js) block) end
     ∙ ap (λ l. coefficients R inv s c.args.fragments.now js ++ l) (drop_all (s.rows * length js) block (omega arith))

@@ -22,11 +22,11 @@ loop-i-preserved g c =
     let short : length xs ≤ i * k + k → to ≡ length xs = λ h. search rules in
     let long : i * k + k ≤ length xs → to ≡ i * k + k = λ h. search rules in
     let row = cut_row R g.met.F.Field.laws.ring xs k n i to c.args.code
-    (c.requires.1.0 i c.loop-i-test.true) (piece_end i c.args.rows k c.loop-i-test.true) c.requires.1.1.1 short long in
+    (c.requires.source.0 i c.loop-i-test.true) (piece_end i c.args.rows k c.loop-i-test.true) c.requires.source.1.1 short long in
     coded-more R k i c.args.code c.value_at.result (filled n xs) c.loop-i.part c.write_element.new.part
-    (let e = piece_end i c.args.rows (width R) c.loop-i-test.true in omega (arith, c.requires.0.2))
+    (let e = piece_end i c.args.rows (width R) c.loop-i-test.true in omega (arith, c.requires.sizes.2))
     c.loop-i.invariant (c.value_at.ensures ∙ row)
-    (element-put R c.args.rows i c.value_at.result c.loop-i.part c.write_element.new.part c.write_element.result (c.loop-i.auto.part ∙ c.requires.0.2) c.loop-i-test.true
+    (element-put R c.args.rows i c.value_at.result c.loop-i.part c.write_element.new.part c.write_element.result (c.loop-i.auto.part ∙ c.requires.sizes.2) c.loop-i-test.true
     (subst (λ v. v < R.size) (sym c.value_at.ensures) (eval_code R g.met.F.Field.laws.ring _ c.args.code)) c.write_element.ensures.answer c.write_element.ensures.part)
 
 pub returns : goal.returns
@@ -35,5 +35,5 @@ returns g c =
     let end : c.loop-i.i ≡ c.args.rows = omega arith in
     let n = ap (λ i. i * width R) end in
     let xs = filled (c.args.rows * c.args.k) c.args.source.now in
-    sym (take_all (c.loop-i.i * width R) c.loop-i.part (omega (arith, c.requires.0.2)))
+    sym (take_all (c.loop-i.i * width R) c.loop-i.part (omega (arith, c.requires.sizes.2)))
     ∙ c.loop-i.invariant ∙ ap (λ i. coded R c.args.k i xs c.args.code) end

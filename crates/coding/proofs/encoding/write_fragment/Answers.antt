@@ -12,13 +12,13 @@ encode_rows-requires g c =
     let s = c.args.shape in
     let R = g.F.Field.arithmetic in
     let f = fitting R s c.args.block.now c.args.board c.args.part.now c.requires in
-    let k = ap (λ n. s.rows * n) c.row_bytes.ensures in (
-      (omega (arith, c.row_bytes.ensures, s.range.1), omega (arith, s.range.3), f.part_long),
-      (
+    let k = ap (λ n. s.rows * n) c.row_bytes.ensures in (record {
+      sizes = (omega (arith, c.row_bytes.ensures, s.range.1), omega (arith, s.range.3), f.part_long);
+      source = (
         (λ i h. omega (arith, piece_end i s.rows c.row_bytes.result h, k, f.block_long)),
         (omega (arith, k, f.block_long), omega (arith, f.most, s.range.1, g.met.F.Field.laws.ring.least)),
-      ),
-    )
+      );
+    })
 
 pub returns : goal.returns
 returns g c =

@@ -16,13 +16,13 @@ encode_rows-requires g c =
     let q = c.share_rows.ensures in
     let few = share_rows_few s.faults s.range.0 s.range.1 in
     let enough = share_rows_enough s.faults in
-    let product = ap (λ n. n * c.row_bytes.result) q ∙ ap (λ n. share_rows s.faults * n) k in (
-      (omega (arith, k, s.range.1), omega (arith, q, few), f.part_long ∙ ap (λ n. n * width R) (sym q)),
-      (
+    let product = ap (λ n. n * c.row_bytes.result) q ∙ ap (λ n. share_rows s.faults * n) k in (record {
+      sizes = (omega (arith, k, s.range.1), omega (arith, q, few), f.part_long ∙ ap (λ n. n * width R) (sym q));
+      source = (
         (λ i h. subst (λ n. i * n ≤ length c.args.vector.now) (sym k) (omega (arith, share-row-starts s.faults i (omega (arith, q, h)), f.vector_long))),
         (omega (arith, product, enough, f.vector_long), omega (arith, f.most, s.range.1, g.met.F.Field.laws.ring.least)),
-      ),
-    )
+      );
+    })
 
 pub returns : goal.returns
 returns g c =
