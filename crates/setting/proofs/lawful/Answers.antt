@@ -7,10 +7,10 @@ use Rattle.setting.proofs.lawful.Goals as goal
 
 pub returns : goal.returns
 returns g c =
-    let t = c.args.-shape.faults in
-    let r = c.args.-shape.rows in
+    let t = c.args._shape.faults in
+    let r = c.args._shape.rows in
     let lawful : (f : ℕ) → Laws (setting g.F.Field.arithmetic g.F.Field.inverted g.D.Hash.hashes t r f) =
-    λ f. laws g.F.Field.arithmetic g.F.Field.inverted g.D.Hash.hashes g.met.F.Field.laws g.met.D.Hash.sound t r f c.args.-shape.range.1 in
+    λ f. laws g.F.Field.arithmetic g.F.Field.inverted g.D.Hash.hashes g.met.F.Field.laws g.met.D.Hash.sound t r f c.args._shape.range.1 in
     record {
       laws = lawful;
       promises = λ f. kept (setting g.F.Field.arithmetic g.F.Field.inverted g.D.Hash.hashes t r f) (lawful f);
