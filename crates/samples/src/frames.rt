@@ -49,7 +49,7 @@ fn symbol_is_read(rt: HostRuntime) -> Result<(), Fail> {
     };
     match read_checked::<Field256>(shape, &SYMBOL) {
         Ok(Frame::Symbol { sender, fragment }) => {
-            assert!(rt; sender == 2 && fragment == b"\x03");
+            assert!(rt; sender == 2 && fragment == b"\x03".as_slice());
             Ok(())
         },
         _ => Err(Fail::new("not a SYMBOL")),
@@ -114,10 +114,13 @@ fn send_comes_back(rt: HostRuntime) -> Result<(), Fail> {
         fragment: b"\x07",
     };
     assert!(rt; write(frame, &mut place) == Ok(134));
-    assert!(rt; &place[0..4] == b"\x01\x00\x04\x5a" && &place[130..135] == b"\x5a\x00\x01\x07\x00");
+    assert!(rt;
+        &place[0..4] == b"\x01\x00\x04\x5a".as_slice()
+            && &place[130..135] == b"\x5a\x00\x01\x07\x00".as_slice()
+    );
     match read::<Field256>(shape, &place[0..134]) {
         Ok(Frame::Send { vector, fragment }) => {
-            assert!(rt; vector.len() == 128 && fragment == b"\x07");
+            assert!(rt; vector.len() == 128 && fragment == b"\x07".as_slice());
             Ok(())
         },
         _ => Err(Fail::new("not a SEND")),
