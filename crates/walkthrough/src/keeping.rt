@@ -64,7 +64,7 @@ pub(crate) fn keep<F: Field, D: Hash>(
 fn matches<D: Hash>(entry: &[u8], board: u16, fragment: &[u8]) -> bool
     ensures { Decides result (entry.now ≡ fragment_digest D.hashes board fragment.now) }
 {
-    entry == digest_of::<D>(board, fragment)
+    entry == digest_of::<D>(board, fragment).as_slice()
 }
 
 /// The part of a board among parts of one size, board 1's first; nothing where it has none.

@@ -19,4 +19,4 @@ put_next away t n before after takes held is put =
 
 pub loop-i-preserved : goal.loop-i-preserved
 loop-i-preserved c =
-    put_next c.args.away c.args.faults c.loop-i.i _ _ c.takes.result c.loop-i.invariant c.takes.ensures c.in-ok-put.ensures.usable
+    put_next c.args.away c.args.faults c.loop-i.i _ _ c.takes.result c.loop-i.invariant c.takes.ensures c.in_ok-put.ensures.usable
