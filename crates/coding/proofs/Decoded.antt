@@ -1,13 +1,13 @@
 -- Decoding undoes encoding, and so t + 1 shares fix a commitment vector.
-use Rattle.std.proofs.Common.{◌≡◌, ℕ, zero, suc, ◌+◌, ◌-◌, ◌*◌, ◌<◌, ◌≤◌, List, [], ◌∷◌, ◌++◌, map, length, take, drop, replicate, sym, refl, ap, ◌∙◌, ap₂, arith}
+use Rattle.std.proofs.Common.{◌≡◌, ℕ, ◌+◌, ◌-◌, ◌*◌, ◌<◌, ◌≤◌, List, [], ◌∷◌, map, length, take, drop, replicate, sym, refl, ap, ◌∙◌, ap₂, arith}
 use Rattle.std.specs.List.{AllByRecursion as All}
 use Rattle.std.proofs.ByRecursion.{All-take, All-drop, All-append, All-weaker}
 use Rattle.std.proofs.lemmas.List.{length-append, length-replicate, length-drop, length-take-le, take_at}
 use Rattle.field.specs.Laws.{Arithmetic, RingLaws, FieldLaws, width}
-use Rattle.elements.specs.Pieces.{piece, laid, filled}
+use Rattle.elements.specs.Pieces.{piece, filled}
 use Rattle.elements.specs.Numbers.{written, number}
 use Rattle.polynomial.specs.Polynomial.{Codes, Distinct, eval, values, interpolated}
-use Rattle.shape.specs.Lengths.{board_count, row_length, vector_length, share_rows}
+use Rattle.shape.specs.Lengths.{row_length, vector_length, share_rows}
 use Rattle.elements.specs.Element.{element}
 use Rattle.coding.specs.Code.{coded, share, decoded, Chosen, SharesFixVectors}
 use Rattle.hash.specs.Bytes.{Bytes}

@@ -1,12 +1,12 @@
 -- What a board holds of a byte string: row by row, as the code writes it.
-use Rattle.std.proofs.Common.{◌≡◌, ℕ, zero, suc, ◌+◌, ◌-◌, ◌*◌, ◌/◌, ◌<◌, ◌≤◌, Bool, cond, ◌&&◌, ltb, List, [], ◌∷◌, ◌++◌, length, take, drop, replicate, sym, refl, ap, ◌∙◌, ap₂, ⊎_elim, add-mul, one-mul, zero-mul, arith}
+use Rattle.std.proofs.Common.{◌≡◌, ℕ, ◌+◌, ◌-◌, ◌*◌, ◌/◌, ◌<◌, ◌≤◌, Bool, cond, ◌&&◌, ltb, List, ◌++◌, length, take, drop, replicate, sym, ap, ◌∙◌, ap₂, ⊎_elim, add-mul, one-mul, zero-mul, arith}
 use lib.Seq.{take-append-add}
 use Rattle.std.proofs.lemmas.List.{length-drop, length-take-le, length-append, take_all, take-append-le, take_at, drop-append-le, take-replicate, append-nil, append_assoc}
 use Rattle.std.proofs.lemmas.Nat.{div-mul-add}
 use Rattle.std.proofs.lemmas.Bool.{cases_lt, and_from, lt-ltb, cond-true}
 use Rattle.field.proofs.Widths.{width_least}
 use Rattle.field.specs.Laws.{Arithmetic, RingLaws, width}
-use Rattle.elements.specs.Pieces.{piece, laid, filled, put}
+use Rattle.elements.specs.Pieces.{piece, filled, put}
 use Rattle.elements.specs.Numbers.{written}
 use Rattle.polynomial.specs.Polynomial.{eval}
 use Rattle.coding.specs.Code.{coded}

@@ -1,6 +1,5 @@
 -- The coefficients of a row, from the points of the chosen boards.
-use Rattle.std.proofs.Common.{◌≡◌, ℕ, ◌+◌, ◌-◌, ◌*◌, ◌<◌, true, false, List, [], ◌∷◌, map, length, take, drop, is_some, IsSomeAnd, Some, None, Option, sym, refl, ap, ◌∙◌, subst, ap₂, arith, MatchOption}
-use Rattle.std.specs.List.{AllByRecursion as All}
+use Rattle.std.proofs.Common.{◌≡◌, ℕ, ◌+◌, ◌-◌, ◌*◌, ◌<◌, true, false, List, [], ◌∷◌, map, length, take, drop, is_some, IsSomeAnd, Some, None, Option, sym, refl, ap, ◌∙◌, subst, arith, MatchOption}
 use Rattle.std.proofs.ByRecursion.{All-map, All-weaker, All-take, All-drop, All-append}
 use Rattle.std.proofs.lemmas.List.{length-map}
 use Rattle.std.proofs.lemmas.Bool.{some_since, both_ways}
@@ -13,7 +12,7 @@ use Rattle.elements.specs.Pieces.{laid}
 use Rattle.elements.specs.Element.{element, Elements}
 use Rattle.coding.specs.Code.{decoded}
 use Rattle.hash.specs.Bytes.{Bytes}
-use Rattle.coding.specs.Decoding.{held, points_of, row_coefficients, coefficients, Sound, Ready}
+use Rattle.coding.specs.Decoding.{held, points_of, row_coefficients, coefficients, Ready}
 use Rattle.polynomial.proofs.Newton.{interpolated-length}
 use Rattle.elements.proofs.Pieces.{laid_none, laid_more, piece-laid}
 use Rattle.coding.proofs.Selected.{chosen}

@@ -1,12 +1,12 @@
 -- The Reed-Solomon code: what board j holds of a block and of a commitment vector, and how they are decoded.
-use Rattle.std.specs.Prelude.{◌≡◌, ℕ, ◌+◌, ◌-◌, ◌*◌, ◌<◌, ◌≤◌, List, map, length, Some, None, Option}
+use Rattle.std.specs.Prelude.{◌≡◌, ℕ, ◌*◌, ◌≤◌, List, map, length}
 use Rattle.field.specs.Laws.{Arithmetic, width}
 use Rattle.hash.specs.Bytes.{Bytes}
 use Rattle.elements.specs.Pieces.{piece, laid, filled}
 use Rattle.elements.specs.Numbers.{written}
 use Rattle.elements.specs.Element.{element}
 use Rattle.std.specs.List.{AllByRecursion as All}
-use Rattle.polynomial.specs.Polynomial.{Codes, Distinct, eval, interpolated}
+use Rattle.polynomial.specs.Polynomial.{Distinct, eval, interpolated}
 use Rattle.shape.specs.Lengths.{board_count, row_length, vector_length, share_rows}
 
 -- The values at the code j of the first q rows of k bytes of xs, each written as an element.

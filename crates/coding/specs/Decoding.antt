@@ -1,5 +1,5 @@
 -- What decoding fragments answers.
-use Rattle.std.specs.Prelude.{◌≡◌, ℕ, ◌+◌, ◌-◌, ◌<◌, Bool, true, false, ◌&&◌, List, map, length, Ok, Err, Result, ◌==◌}
+use Rattle.std.specs.Prelude.{◌≡◌, ℕ, ◌+◌, ◌-◌, Bool, true, false, ◌&&◌, List, map, length, Ok, Err, Result, ◌==◌}
 use Rattle.std.specs.List.{AllByRecursion as All}
 use Rattle.field.specs.Laws.{Arithmetic, width}
 use Rattle.coding.specs.declared.decoding.Undecodable.{Undecodable}

@@ -1,8 +1,8 @@
 -- What the calls on a shape ask of their arguments, and what they write.
-use Rattle.std.specs.Prelude.{ℕ, ◌+◌, ◌-◌, ◌*◌, Bool, ◌&&◌, List, length, ◌==◌, nat_le}
+use Rattle.std.specs.Prelude.{ℕ, ◌+◌, ◌*◌, Bool, ◌&&◌, List, length, ◌==◌, nat_le}
 use Rattle.field.specs.Laws.{Arithmetic, width}
 use Rattle.shape.specs.declared.Shape.{Shape}
-use Rattle.elements.specs.Pieces.{piece, laid}
+use Rattle.elements.specs.Pieces.{laid}
 use Rattle.shape.specs.Lengths.{is_board, board_count, block_length, fragment_length, vector_length, share_length}
 use Rattle.coding.specs.Code.{fragment, share}
 

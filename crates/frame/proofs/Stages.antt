@@ -1,14 +1,13 @@
 -- What reading a frame answers, step by step.
-use Rattle.std.proofs.Common.{◌≡◌, ℕ, ◌+◌, ◌-◌, ◌*◌, ◌≤◌, Bool, true, false, cond, eqb, ltb, List, length, get_or, take, drop, Some, Ok, Err, Result, sym, refl, ap, ◌∙◌, arith}
+use Rattle.std.proofs.Common.{◌≡◌, ℕ, ◌+◌, ◌-◌, ◌*◌, ◌≤◌, Bool, true, false, cond, eqb, ltb, length, get_or, take, drop, Ok, Err, Result, sym, refl, ap, ◌∙◌, arith}
 use Rattle.std.proofs.lemmas.List.{take_rest, length-drop, drop-drop}
 use Rattle.std.proofs.lemmas.Bool.{le-ltb, eq-eqb, eqb-true}
 use Rattle.field.specs.Laws.{Arithmetic}
 use Rattle.shape.specs.declared.Shape.{Shape}
 use Rattle.protocol.specs.declared.kind.Kind.{Kind}
-use Rattle.protocol.specs.Messages.{Bytes, Message}
+use Rattle.protocol.specs.Messages.{Bytes}
 use Rattle.fault.specs.declared.FrameFault.{FrameFault}
-use Rattle.layout.specs.Kinds.{numbered, is_sender, digests, bytes}
-use Rattle.frame.specs.Frames.{made}
+use Rattle.layout.specs.Kinds.{digests, bytes}
 use Rattle.frame.specs.Reading.{reads, sectioned, onto}
 use Rattle.frame.specs.Front.{Front}
 

@@ -2,7 +2,7 @@
 use Rattle.std.proofs.Common.{◌≡◌, ℕ, suc, ◌+◌, ◌-◌, ◌*◌, ◌/◌, ◌%◌, ◌^◌, ◌<◌, ◌≤◌, List, [], ◌∷◌, ◌++◌, length, take, drop, set, replicate, sym, refl, ap, ◌∙◌, arith}
 use borrow.Rule.Slice.PartMut.{post_of, put_mid}
 use Rattle.std.proofs.lemmas.List.{append-nil, append_assoc, set_at, take_at, drop-drop, drop_all, drop-replicate, length-append, length-replicate, replicate-append-replicate}
-use Rattle.hash.specs.Sha256.{hashed, compress, padded, padding, length_bytes}
+use Rattle.hash.specs.Sha256.{hashed, compress, padded, length_bytes}
 use Rattle.hash.proofs.Blocks.{hashed_tail, hashed_tails}
 
 -- the rest of a message, the mark, and z zeros

@@ -1,7 +1,7 @@
 -- Two polynomials with k coefficients that agree at k distinct codes are equal.
 use Rattle.std.proofs.Common.{◌≡◌, ℕ, suc, ◌<◌, List, [], ◌∷◌, length, sym, refl, ap, ◌∙◌, ap₂, arith}
 use Rattle.field.specs.Laws.{Arithmetic, RingLaws, FieldLaws}
-use Rattle.field.proofs.Rings.{zero_code, add_cancel, mul-zero, equal, add-mul, add-sub, mul_cancel}
+use Rattle.field.proofs.Rings.{add_cancel, mul-zero, equal, add-mul, add-sub, mul_cancel}
 use Rattle.std.specs.List.{AllByRecursion as All}
 use Rattle.polynomial.specs.Polynomial.{Codes, Distinct, eval}
 use Rattle.polynomial.proofs.Evaluation.{eval_code}

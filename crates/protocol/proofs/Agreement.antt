@@ -1,16 +1,15 @@
 -- Agreement: boards that have completed hold one vector, and with a sound dealer that of the block dealt.
-use Rattle.std.proofs.Common.{◌≡◌, ℕ, zero, suc, ◌+◌, ◌*◌, ◌≤◌, Bool, true, false, ◌||◌, eqb, ◌⊎◌, [], ◌∷◌, Some, None, Option, sym, refl, ap, ◌∙◌, subst, inl, inr, arith}
+use Rattle.std.proofs.Common.{◌≡◌, ℕ, zero, suc, ◌≤◌, Bool, true, false, ◌||◌, eqb, [], ◌∷◌, Some, Option, sym, refl, ap, ◌∙◌, subst, inl, inr, arith}
 use Rattle.std.proofs.lemmas.Bool.{both_ways, ne_eqb}
-use Rattle.protocol.specs.declared.kind.Kind.TheVariants.{Echo, Ready}
 use Rattle.protocol.specs.Counting.{count}
-use Rattle.protocol.specs.Messages.{Bytes, Parcel, Message, send, echo, ready, kind, sender, sent, echoed, readied}
-use Rattle.protocol.specs.Setting.{Setting, boards, quorum, support, IsBoard}
-use Rattle.protocol.specs.Board.{History, from, heard, voted, votes, kept, ready_vector}
+use Rattle.protocol.specs.Messages.{Bytes, Parcel, Message, echo, ready, kind, sender, sent, echoed, readied}
+use Rattle.protocol.specs.Setting.{Setting, boards, quorum, support}
+use Rattle.protocol.specs.Board.{from, heard, voted, votes, kept, ready_vector}
 use Rattle.protocol.specs.Log.{Event, turned, dealt, started, delivered, Log, inbox, is_turned, design, completed, due, Valid}
 use Rattle.protocol.proofs.Optional.{some_inj}
 use Rattle.protocol.proofs.Counting.{count_le, count_none, count_or, count_single, one_of, quorums}
 use Rattle.protocol.proofs.Heard.{vote_heard, votes_keep, completed-votes, kept_is, ready_reason, ready_none}
-use Rattle.protocol.proofs.Delivered.{inbox_cases, inbox_none, turned_keep, Came, Source, heard_source, heard_source_before, came_from, echoed_is, readied_is, send_came, echo-due, ready-due, send-due}
+use Rattle.protocol.proofs.Delivered.{inbox_cases, inbox_none, turned_keep, Source, heard_source, heard_source_before, came_from, echoed_is, readied_is, send_came, echo-due, ready-due, send-due}
 
 -- At most t boards are turned.
 pub turned_few : (S : Setting) (log : Log) → Valid S log → count (is_turned log) (boards S) ≤ S.t

@@ -1,10 +1,9 @@
 -- A board as a machine does what its history says.
-use Rattle.std.proofs.Common.{◌≡◌, ℕ, ◌+◌, ◌≤◌, Bool, true, false, cond, not, ◌&&◌, ◌||◌, eqb, leb, ◌⊎◌, [], ◌∷◌, Some, None, Option, sym, refl, ap, ◌∙◌, ap₂, inl, inr, arith}
-use Rattle.std.specs.Option.{option_map}
+use Rattle.std.proofs.Common.{◌≡◌, ℕ, ◌+◌, Bool, true, false, cond, not, eqb, leb, [], ◌∷◌, Some, None, Option, sym, refl, ap, ◌∙◌, ap₂, inl, inr, arith}
 use Rattle.std.proofs.lemmas.Bool.{cases_eq, cases_Bool, ne_eqb, cond-true, cond-false, not_from_true, not_from_false}
 use Rattle.protocol.specs.Optional.{first, only, passing, missing}
 use Rattle.protocol.specs.Messages.{Bytes, Parcel, Message, send, echo, ready, hash, symbol, sender, sent, echoed, readied}
-use Rattle.protocol.specs.Setting.{Setting, Laws, quorum, support, fits}
+use Rattle.protocol.specs.Setting.{Setting, quorum, support, fits}
 use Rattle.protocol.specs.Board.{History, from, heard, news, votes, gained, answer}
 use Rattle.protocol.specs.Board as board
 use Rattle.protocol.specs.Machines.{Board, put, tally, latch, latched, new_board, hear_send, hear_echo, hear_ready, board_step, board_after}

@@ -1,5 +1,5 @@
 -- A comparison of two parties that hold something is never unexplained.
-use Rattle.std.proofs.Common.{◌≡◌, ℕ, zero, suc, ◌+◌, ◌*◌, ◌<◌, ◌≤◌, Bool, true, false, cond, not, ◌&&◌, eqb, ◌⊎◌, List, [], ◌∷◌, Some, None, Option, unwrap_or, sym, refl, ap, ◌∙◌, subst, inl, inr, arith}
+use Rattle.std.proofs.Common.{◌≡◌, ℕ, zero, suc, ◌+◌, ◌≤◌, Bool, true, false, cond, not, ◌&&◌, eqb, ◌⊎◌, List, [], ◌∷◌, Some, None, Option, unwrap_or, sym, refl, ap, ◌∙◌, subst, inl, inr, arith}
 use Rattle.std.specs.Option.{option_map}
 use Rattle.std.specs.List.{ContainsAt as Has, AllByRecursion as All}
 use Rattle.std.specs.Str.{bytes_eq}
@@ -7,14 +7,14 @@ use Rattle.std.proofs.ByRecursion.{All-weaker, all-has}
 use Rattle.std.proofs.lemmas.Bool.{and_from, and_left, both_ways, cases_Bool, cond-true, cond-false, ne_eqb, not_from_true, not_from_false, false≢true}
 use Rattle.protocol.specs.Optional.{first, only, meets}
 use Rattle.protocol.specs.Counting.{count}
-use Rattle.protocol.specs.Messages.{Bytes, Message, symbol, sender, symboled}
+use Rattle.protocol.specs.Messages.{Bytes, symboled}
 use Rattle.protocol.specs.Setting.{Setting, Laws, boards, support, IsBoard, fits, formed, Known}
-use Rattle.protocol.specs.Board.{History, from, heard}
-use Rattle.protocol.specs.Fetcher.{shares, symbols, known, fitting, settled, listened, chosen, coefficients, matches, consistent, Ending, block, mark, ending, outcome}
-use Rattle.protocol.specs.Log.{Log, inbox, is_turned, design, completed, ended, Sound, Valid}
-use Rattle.protocol.specs.Comparison.{hears, holding, own, is_sure, used, used_fragment, Finding, alike, differ, unexplained, same_holding, judge, first_at, clash, judged, compared}
+use Rattle.protocol.specs.Board.{History, from}
+use Rattle.protocol.specs.Fetcher.{shares, symbols, fitting, settled, chosen, coefficients, matches, consistent, Ending, block, mark, ending, outcome}
+use Rattle.protocol.specs.Log.{Log, inbox, is_turned, design, ended, Valid}
+use Rattle.protocol.specs.Comparison.{hears, holding, own, is_sure, used, used_fragment, alike, differ, unexplained, same_holding, judge, first_at, clash, judged, compared}
 use Rattle.protocol.specs.Promises.{There, Comparable, Clash, Explained}
-use Rattle.protocol.proofs.Optional.{none_some, some_inj, meets_true, mapped_some, mapped_from, same_eq, eq_same}
+use Rattle.protocol.proofs.Optional.{some_inj, meets_true, mapped_some, mapped_from, same_eq, eq_same}
 use Rattle.protocol.proofs.Counting.{every_at, every-from}
 use Rattle.protocol.proofs.Lowest.{Passing, lowest_pass}
 use Rattle.protocol.proofs.Heard.{from_some}

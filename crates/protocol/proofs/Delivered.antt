@@ -1,18 +1,17 @@
 -- What stays as a log grows, and where what was delivered came from.
-use Rattle.std.proofs.Common.{◌≡◌, ℕ, Bool, true, false, cond, ◌&&◌, eqb, ◌⊎◌, [], ◌∷◌, Some, None, Option, sym, refl, ap, ◌∙◌, subst, inl, inr}
-use Rattle.std.specs.Option.{option_map}
+use Rattle.std.proofs.Common.{◌≡◌, ℕ, Bool, true, false, cond, eqb, ◌⊎◌, [], ◌∷◌, Some, Option, sym, refl, ap, ◌∙◌, subst, inl, inr}
 use Rattle.std.specs.Str.{bytes_eq}
-use Rattle.std.proofs.lemmas.Bool.{eqb-true, or_right, and_parts, and_from}
+use Rattle.std.proofs.lemmas.Bool.{eqb-true, or_right}
 use Rattle.protocol.specs.declared.kind.Kind.{Kind}
 use Rattle.protocol.specs.declared.kind.Kind.TheVariants.{Send, Echo, Ready, Hash, Symbol}
 use Rattle.protocol.specs.Optional.{passing, meets}
 use Rattle.protocol.specs.Messages.{Bytes, Parcel, Message, send, echo, ready, hash, symbol, kind, sender, sent, echoed, readied, hashed, symboled}
-use Rattle.protocol.specs.Setting.{Setting, fits, formed}
+use Rattle.protocol.specs.Setting.{Setting, formed}
 use Rattle.protocol.specs.Board.{History, from, heard, kept, ready_vector}
 use Rattle.protocol.specs.Board as board
 use Rattle.protocol.specs.Log.{Event, turned, dealt, started, delivered, Log, inbox, turns, is_turned, deals, design, completed, due, Goes, is_open, Allowed, Valid}
 use Rattle.protocol.proofs.Optional.{none_some, some_inj, first_left, first_either, passing_some, passing-from, meets_true, meets-from, mapped_some, mapped_from, same_eq, eq_same}
-use Rattle.protocol.proofs.Heard.{heard_keep, heard_none, heard_either, from_some, kept_keep, ready_keep, completed_keep}
+use Rattle.protocol.proofs.Heard.{heard_none, heard_either, from_some, kept_keep, ready_keep, completed_keep}
 
 -- An event leaves a history as it was, or adds the message that it delivers.
 pub inbox_cases : (r : ℕ) (e : Event) (log : Log) →

@@ -1,16 +1,16 @@
 -- A fetcher as a machine does what its history says.
-use Rattle.std.proofs.Common.{◌≡◌, ℕ, ◌+◌, ◌≤◌, Bool, true, false, cond, not, ◌&&◌, ◌||◌, ◌⊎◌, [], ◌∷◌, Some, None, Option, sym, refl, ap, ◌∙◌, ap₂, inl, inr, arith}
+use Rattle.std.proofs.Common.{◌≡◌, ℕ, ◌+◌, ◌≤◌, true, false, cond, not, ◌&&◌, ◌||◌, [], ◌∷◌, Some, None, Option, sym, refl, ap, ◌∙◌, ap₂, inl, inr, arith}
 use Rattle.std.specs.Option.{option_map}
 use Rattle.std.specs.Str.{bytes_eq}
-use Rattle.std.proofs.lemmas.Bool.{cases_Bool, cond-true, cond-false, not_from_true, not_from_false, and_from, and_left, and_right, or_left, or_right, or_from}
+use Rattle.std.proofs.lemmas.Bool.{cases_Bool, cond-true, cond-false, not_from_true, not_from_false, or_left, or_right, or_from}
 use Rattle.protocol.specs.Optional.{first, missing}
 use Rattle.protocol.specs.Counting.{count}
 use Rattle.protocol.specs.Messages.{Bytes, Message, send, echo, ready, hash, symbol, hashed, symboled}
-use Rattle.protocol.specs.Setting.{Setting, Laws, boards, quorum, agrees, Known}
-use Rattle.protocol.specs.Board.{History, from, heard, gained}
+use Rattle.protocol.specs.Setting.{Setting, Laws, boards, agrees}
+use Rattle.protocol.specs.Board.{History, heard, gained}
 use Rattle.protocol.specs.Fetcher.{shares, symbols, known, settling, settled, listened, outcome, stale, response, answer}
 use Rattle.protocol.specs.Machines.{Fetcher, put, new_fetcher, fetched, fetcher_step, fetcher_after}
-use Rattle.protocol.proofs.Optional.{none_some, first_left, meets_true, meets-from}
+use Rattle.protocol.proofs.Optional.{first_left, meets_true, meets-from}
 use Rattle.protocol.proofs.Counting.{count_le, count_none}
 use Rattle.protocol.proofs.BoardSteps.{heard_other, heard_again, heard-more}
 

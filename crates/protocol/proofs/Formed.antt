@@ -1,13 +1,12 @@
 -- What is delivered has the form of its kind, and so has what boards keep, issue and complete with.
-use Rattle.std.proofs.Common.{◌≡◌, ℕ, ◌+◌, ◌*◌, ◌≤◌, Bool, true, ◌&&◌, ◌⊎◌, [], ◌∷◌, Some, None, Option, sym, refl, ap, ◌∙◌, subst, inl, inr, arith}
+use Rattle.std.proofs.Common.{◌≡◌, ℕ, ◌≤◌, true, [], ◌∷◌, Some, Option, sym, refl, ap, ◌∙◌, subst, inl, inr, arith}
 use Rattle.std.specs.List.{AllByRecursion as All}
 use Rattle.std.proofs.lemmas.Bool.{and_parts, and_from}
-use Rattle.protocol.specs.Counting.{count}
-use Rattle.protocol.specs.Messages.{Bytes, Parcel, Message, send, echo, ready, hash, symbol, kind, sender, sent, echoed, readied, hashed, symboled}
+use Rattle.protocol.specs.Messages.{Bytes, Message, send, echo, ready, hash, symbol, kind, sender, sent, echoed, readied}
 use Rattle.protocol.specs.Setting.{Setting, Laws, boards, formed}
 use Rattle.protocol.specs.Board.{History, from, heard, voted, votes, kept, ready_vector}
 use Rattle.protocol.specs.Board as board
-use Rattle.protocol.specs.Log.{Event, delivered, Log, inbox, completed, due, Goes, Allowed, Valid}
+use Rattle.protocol.specs.Log.{delivered, Log, inbox, completed, due, Goes, Allowed, Valid}
 use Rattle.protocol.proofs.Counting.{count_some}
 use Rattle.protocol.proofs.Heard.{vote_heard, heard_none, heard_either, from_some, kept_is, completed-votes, ready_none, ready_reason}
 use Rattle.protocol.proofs.Delivered.{inbox_cases, inbox_none, design-block, sent_is, echoed_is, readied_is, send-due, echo-due, ready-due, hash-due, symbol-due}

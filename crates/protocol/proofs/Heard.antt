@@ -1,9 +1,8 @@
 -- What a board has heard, kept, issued and completed with: it stays as its history grows, and comes to be when enough was heard.
-use Rattle.std.proofs.Common.{◌≡◌, ℕ, ◌+◌, ◌*◌, ◌≤◌, Bool, true, eqb, leb, ◌⊎◌, [], ◌∷◌, Some, None, Option, sym, refl, ap, ◌∙◌, inl, inr, arith}
+use Rattle.std.proofs.Common.{◌≡◌, ℕ, ◌≤◌, Bool, true, eqb, leb, ◌⊎◌, [], ◌∷◌, Some, None, Option, sym, refl, ap, ◌∙◌, inl, inr, arith}
 use Rattle.std.specs.Str.{bytes_eq}
 use Rattle.std.proofs.lemmas.Bool.{eqb-true, leb-true, le-leb, cases_Bool, both_ways}
-use Rattle.protocol.specs.Optional.{first, only, passing, meets, missing}
-use Rattle.protocol.specs.Counting.{count}
+use Rattle.protocol.specs.Optional.{first, passing, meets}
 use Rattle.protocol.specs.Messages.{Bytes, Parcel, Message, sender, sent, echoed, readied}
 use Rattle.protocol.specs.Setting.{Setting, boards, quorum, support, fits}
 use Rattle.protocol.specs.Board.{History, from, heard, news, voted, votes, kept, ready_vector, completed}

@@ -1,21 +1,21 @@
 -- Fetchers: at most one vector is known, it is the completed one, and on a quiet floor each started fetcher has ended.
-use Rattle.std.proofs.Common.{◌≡◌, ℕ, ◌+◌, ◌-◌, ◌*◌, ◌<◌, ◌≤◌, Bool, true, false, cond, not, ◌&&◌, ◌||◌, eqb, leb, ◌⊎◌, [], ◌∷◌, Some, None, Option, sym, refl, ap, ◌∙◌, subst, inl, inr, arith}
+use Rattle.std.proofs.Common.{◌≡◌, ℕ, ◌+◌, ◌-◌, ◌≤◌, Bool, true, false, cond, not, ◌&&◌, leb, [], ◌∷◌, Some, Option, sym, refl, ap, ◌∙◌, inl, inr, arith}
 use Rattle.std.specs.Str.{bytes_eq}
 use Rattle.std.proofs.lemmas.Bool.{and_parts, or_cases, not-true, leb-true, le-leb, lt-leb, eqb-true, cond-true, cond-false, cases_Bool, both_ways, true≢false}
 use Rattle.protocol.specs.declared.kind.Kind.{Kind}
 use Rattle.protocol.specs.declared.kind.Kind.TheVariants.{Hash, Symbol}
-use Rattle.protocol.specs.Optional.{missing, meets}
+use Rattle.protocol.specs.Optional.{missing}
 use Rattle.protocol.specs.Counting.{count}
 use Rattle.protocol.specs.Messages.{Bytes, Message, hash, symbol, echoed, hashed, symboled}
-use Rattle.protocol.specs.Setting.{Setting, Laws, boards, quorum, support, IsBoard, IsFetcher, fits, agrees, Known}
+use Rattle.protocol.specs.Setting.{Setting, Laws, boards, quorum, support, IsFetcher, fits, agrees, Known}
 use Rattle.protocol.specs.Board.{History, from, heard, voted, kept}
 use Rattle.protocol.specs.Board as board
 use Rattle.protocol.specs.Fetcher.{shares, symbols, known, fitting, settled, listened, stale, response}
 use Rattle.protocol.specs.Fetcher as fetcher
-use Rattle.protocol.specs.Log.{Event, turned, dealt, started, delivered, Log, inbox, is_turned, is_started, starts, is_open, completed, due, Goes, Sound, Allowed, Valid, Quiet, answer}
+use Rattle.protocol.specs.Log.{Event, turned, dealt, started, delivered, Log, inbox, is_turned, is_started, starts, is_open, completed, due, Goes, Sound, Allowed, Valid, Quiet}
 use Rattle.protocol.proofs.Optional.{Was, some_inj, passing_some, passing-from, meets_true, meets-from, missing_was, renamed, same_eq, eq_same}
 use Rattle.protocol.proofs.Counting.{count_le, count_both, count-minus, one_of}
-use Rattle.protocol.proofs.Heard.{heard_keep, heard_either, kept_is}
+use Rattle.protocol.proofs.Heard.{heard_keep, kept_is}
 use Rattle.protocol.proofs.Delivered.{hashed_is, symboled_is, hash-due, symbol-due, due-hash, due-symbol}
 use Rattle.protocol.proofs.Agreement.{turned_few, heard-issued, echo-kept, completed_rooted, agreement}
 use Rattle.protocol.proofs.Formed.{completed-vector}

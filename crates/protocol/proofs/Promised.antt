@@ -1,12 +1,12 @@
 -- The promises hold over every valid log.
-use Rattle.std.proofs.Common.{◌≡◌, ℕ, ◌+◌, true, false, not, Some, inl, inr, arith}
+use Rattle.std.proofs.Common.{◌≡◌, ℕ, ◌+◌, true, not, Some, inl, inr, arith}
 use Rattle.std.proofs.lemmas.Bool.{not-true}
 use Rattle.protocol.specs.Messages.{Bytes}
 use Rattle.protocol.specs.Setting.{Setting, Laws, boards}
 use Rattle.protocol.specs.Fetcher.{shares, symbols, settled, outcome}
 use Rattle.protocol.specs.Log.{Log, is_turned, is_started, completed, ended, Sound, Valid, Quiet}
 use Rattle.protocol.specs.Comparison.{hears}
-use Rattle.protocol.specs.Promises.{There, Begun, Agreement, Totality, Knowledge, Comparison, Promises}
+use Rattle.protocol.specs.Promises.{There, Begun, Promises}
 use Rattle.protocol.proofs.Optional.{mapped_from}
 use Rattle.protocol.proofs.Counting.{count_some}
 use Rattle.protocol.proofs.Agreement.{agreement, agreement_dealt}

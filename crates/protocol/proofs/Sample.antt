@@ -1,5 +1,5 @@
 -- The promises are not empty: a setting in which every board keeps a copy of the block, and a log in which all comes to its end.
-use Rattle.std.proofs.Common.{◌≡◌, ℕ, zero, suc, ◌+◌, ◌*◌, ◌<◌, ◌≤◌, Bool, true, false, not, leb, ◌⊎◌, List, [], ◌∷◌, ◌++◌, length, Some, None, Option, unwrap_or, sym, refl, ap, ◌∙◌, subst, inl, inr, arith, lit<, lit≤}
+use Rattle.std.proofs.Common.{◌≡◌, ℕ, zero, suc, ◌+◌, ◌*◌, ◌≤◌, Bool, true, false, not, leb, List, [], ◌∷◌, ◌++◌, length, Some, None, Option, unwrap_or, sym, refl, ap, ◌∙◌, subst, inl, inr, arith, lit<, lit≤}
 use Rattle.std.specs.List.{AllByRecursion as All}
 use Rattle.std.specs.Str.{bytes_eq}
 use Rattle.std.proofs.lemmas.List.{length-take-le}
@@ -14,7 +14,7 @@ use Rattle.protocol.specs.Board.{heard}
 use Rattle.protocol.specs.Board as board
 use Rattle.protocol.specs.Fetcher.{settled, listened, block}
 use Rattle.protocol.specs.Fetcher as fetcher
-use Rattle.protocol.specs.Log.{Event, turned, dealt, started, delivered, Log, inbox, is_turned, is_started, design, completed, ended, is_open, due, Goes, Sound, Valid, Quiet, answer}
+use Rattle.protocol.specs.Log.{turned, dealt, started, delivered, Log, inbox, is_turned, is_started, design, completed, ended, is_open, due, Goes, Sound, Valid, Quiet, answer}
 use Rattle.protocol.specs.Comparison.{first_at}
 use Rattle.protocol.specs.Promises.{Possible}
 use Rattle.protocol.proofs.Optional.{Was, none_some, some_inj, first_either, first_was, first_some, passing_some, passing-from, meets_true, same_eq}

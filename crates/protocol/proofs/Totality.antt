@@ -1,16 +1,16 @@
 -- Totality: on a quiet floor, once one board has completed or a sound dealer has dealt, every sound board has completed.
-use Rattle.std.proofs.Common.{◌≡◌, ℕ, ◌+◌, ◌*◌, ◌≤◌, Bool, true, false, cond, not, ◌&&◌, leb, Some, None, Option, sym, refl, ap, ◌∙◌, inl, inr, arith}
+use Rattle.std.proofs.Common.{◌≡◌, ℕ, ◌+◌, ◌≤◌, Bool, true, false, cond, not, ◌&&◌, leb, Some, Option, sym, refl, ap, ◌∙◌, inl, inr, arith}
 use Rattle.std.proofs.lemmas.Bool.{and_parts, not-true, not_from_false, le-leb, cond-true}
 use Rattle.protocol.specs.declared.kind.Kind.{Kind}
 use Rattle.protocol.specs.declared.kind.Kind.TheVariants.{Send, Echo, Ready}
 use Rattle.protocol.specs.Optional.{missing}
 use Rattle.protocol.specs.Counting.{count}
 use Rattle.protocol.specs.Messages.{Bytes, Parcel, Message, send, echo, ready, sent, echoed, readied}
-use Rattle.protocol.specs.Setting.{Setting, Laws, boards, quorum, support, IsBoard, fits}
+use Rattle.protocol.specs.Setting.{Setting, Laws, boards, quorum, support, fits}
 use Rattle.protocol.specs.Board.{History, from, heard, voted, kept, stale}
 use Rattle.protocol.specs.Board as board
 use Rattle.protocol.specs.Fetcher as fetcher
-use Rattle.protocol.specs.Log.{Log, inbox, is_turned, is_started, is_open, design, completed, due, Goes, Sound, Valid, Quiet, answer}
+use Rattle.protocol.specs.Log.{Log, inbox, is_turned, is_open, design, completed, due, Goes, Sound, Valid, Quiet}
 use Rattle.protocol.proofs.Optional.{Was, some_inj, missing_was, eq_same}
 use Rattle.protocol.proofs.Counting.{count_le, count-minus, count_not}
 use Rattle.protocol.proofs.Heard.{heard_vote, kept_from, completed-votes, completed_reached, ready_reached}

@@ -1,5 +1,5 @@
 -- Comparing what two parties hold: the dealer, who is 0, and fetchers, from 1 on.
-use Rattle.std.specs.Prelude.{◌≡◌, ℕ, zero, suc, ◌+◌, Bool, true, false, cond, not, ◌&&◌, List, [], ◌∷◌, Some, None, Option, ◌==◌}
+use Rattle.std.specs.Prelude.{ℕ, zero, suc, ◌+◌, Bool, true, false, cond, not, ◌&&◌, List, [], ◌∷◌, Some, None, Option, ◌==◌}
 use Rattle.std.specs.Option.{option_map, unwrap_or}
 use Rattle.std.specs.Str.{bytes_eq}
 use Rattle.protocol.specs.Optional.{first, only, meets}
@@ -7,7 +7,7 @@ use Rattle.protocol.specs.Messages.{Bytes}
 use Rattle.protocol.specs.Setting.{Setting, boards}
 use Rattle.protocol.specs.Board.{History}
 use Rattle.protocol.specs.Fetcher.{symbols, settled, listened, chosen, coefficients, consistent, Ending, block, mark}
-use Rattle.protocol.specs.Log.{Log, inbox, is_turned, design, ended}
+use Rattle.protocol.specs.Log.{Log, inbox, design, ended}
 
 -- What the fetcher f has heard.
 abbrev pub hears : Setting → Log → ℕ → History

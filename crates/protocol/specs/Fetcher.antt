@@ -1,5 +1,5 @@
 -- A fetcher: what it has heard before it ended, the vector that it knows, what it ended with, and what it answers, as functions of its history.
-use Rattle.std.specs.Prelude.{◌≡◌, ℕ, ◌+◌, Bool, true, false, cond, not, ◌&&◌, ◌||◌, List, [], ◌∷◌, Some, None, Option, nat_le}
+use Rattle.std.specs.Prelude.{ℕ, ◌+◌, Bool, true, cond, not, ◌&&◌, ◌||◌, List, [], ◌∷◌, Option, nat_le}
 use Rattle.std.specs.Option.{option_map, unwrap_or}
 use Rattle.protocol.specs.Optional.{passing, meets, missing}
 use Rattle.protocol.specs.Counting.{count, every, lowest}

@@ -1,12 +1,12 @@
 -- What the protocol promises over every valid log, whatever the wire and the turned parties did.
-use Rattle.std.specs.Prelude.{◌≡◌, ℕ, zero, suc, ◌+◌, true, false, ◌⊎◌, Some, None, Option, ◌≢◌}
+use Rattle.std.specs.Prelude.{◌≡◌, ℕ, zero, suc, true, false, ◌⊎◌, Some, Option, ◌≢◌}
 use Rattle.std.specs.Option.{option_map}
 use Rattle.std.specs.List.{ContainsAt as Has}
 use Rattle.protocol.specs.Messages.{Bytes}
-use Rattle.protocol.specs.Setting.{Setting, Laws, boards, IsBoard, Known}
-use Rattle.protocol.specs.Fetcher.{shares, symbols, known, Ending, block}
+use Rattle.protocol.specs.Setting.{Setting, Laws, IsBoard, Known}
+use Rattle.protocol.specs.Fetcher.{shares, symbols, known, block}
 use Rattle.protocol.specs.Log.{Log, is_turned, is_started, design, completed, ended, Sound, Valid, Quiet}
-use Rattle.protocol.specs.Comparison.{hears, holding, own, used, judge, Finding, alike, differ, compared}
+use Rattle.protocol.specs.Comparison.{hears, holding, own, used, judge, alike, differ, compared}
 
 -- There is a value.
 abbrev pub There : {A : Type 0} → Option A → Type 0

@@ -1,6 +1,6 @@
 -- What the protocol is run with: how many boards and fetchers there are, what byte strings look like, and what is made of them.
 -- The protocol knows no more of digests, shares and codes than the laws below.
-use Rattle.std.specs.Prelude.{◌≡◌, ℕ, ◌+◌, ◌*◌, ◌<◌, ◌≤◌, Bool, true, ◌&&◌, List, Some, None, Option}
+use Rattle.std.specs.Prelude.{◌≡◌, ℕ, ◌+◌, ◌*◌, ◌<◌, ◌≤◌, Bool, true, ◌&&◌, List, Some, Option}
 use Rattle.std.specs.List.{AllByRecursion as All}
 use Rattle.std.specs.Str.{bytes_eq}
 use Rattle.protocol.specs.Optional.{meets}

@@ -1,4 +1,4 @@
-use Rattle.std.proofs.Common.{◌≡◌, ℕ, ◌+◌, ◌*◌, ◌/◌, List, length, Some, None, Err, Option, sym, refl, ap, ◌∙◌, ap₂}
+use Rattle.std.proofs.Common.{◌≡◌, ℕ, ◌+◌, ◌*◌, ◌/◌, List, length, Some, None, Err, Option, ap, ◌∙◌, ap₂}
 use Rattle.field.specs.Laws.{Arithmetic, width}
 use Rattle.shape.specs.declared.Shape.{Shape}
 use Rattle.elements.specs.Element.{FirstOverrun, first_overrun}

@@ -1,4 +1,4 @@
-use Rattle.std.proofs.Common.{◌≡◌, ◌*◌, Ok, sym, ap, ◌∙◌, subst, ap₂, arith}
+use Rattle.std.proofs.Common.{◌≡◌, ◌*◌, Ok, sym, ap, ◌∙◌, ap₂, arith}
 use Rattle.layout.specs.Kinds.{digests, bytes}
 use Rattle.frame.specs.Frames.{encode}
 use Rattle.frame.specs.Reading.{sectioned, onto}

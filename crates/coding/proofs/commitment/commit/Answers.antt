@@ -1,6 +1,6 @@
-use Rattle.std.proofs.Common.{◌≡◌, ℕ, ◌+◌, ◌-◌, ◌*◌, ◌++◌, length, get_or, drop, sym, ap, ◌∙◌, append-nil, arith, rules}
+use Rattle.std.proofs.Common.{◌≡◌, ◌+◌, ◌-◌, ◌*◌, ◌++◌, ap, ◌∙◌, append-nil, arith, rules}
 use Rattle.std.proofs.lemmas.List.{drop_all}
-use Rattle.coding.specs.Commitment.{fragment_digest, vector_of}
+use Rattle.coding.specs.Commitment.{fragment_digest}
 use Rattle.coding.specs.Decoding.{held}
 use Rattle.elements.specs.Pieces.{laid}
 use Rattle.coding.proofs.Committed.{entry_long}

@@ -1,4 +1,4 @@
-use Rattle.std.proofs.Common.{◌≡◌, is_some, ap}
+use Rattle.std.proofs.Common.{is_some, ap}
 use Rattle.coding.proofs.Selected.{element_read}
 use Rattle.coding.proofs.decoding.value_in.Goals as goal
 

@@ -1,11 +1,9 @@
-use Rattle.std.proofs.Common.{◌≡◌, ◌+◌, ◌-◌, ◌*◌, ◌<◌, ◌≤◌, [], ◌++◌, length, drop, sym, ap, ◌∙◌, subst, ap₂, append-nil, arith, rules}
+use Rattle.std.proofs.Common.{◌≡◌, ◌+◌, ◌-◌, ◌*◌, ◌≤◌, ◌++◌, length, drop, sym, ap, ◌∙◌, subst, append-nil, arith, rules}
 use Rattle.std.proofs.lemmas.List.Edits.{length-between}
 use Rattle.std.proofs.lemmas.List.{drop_all}
-use Rattle.std.proofs.lemmas.Bool.{eqb-true}
 use Rattle.coding.specs.Code.{decoded}
 use Rattle.hash.specs.Bytes.{Bytes}
 use Rattle.coding.specs.Decoding.{held, row_coefficients, coefficients}
-use Rattle.shape.specs.Lengths.{row_length, block_length}
 use Rattle.elements.proofs.Pieces.{piece_end, laid_start, laid_part}
 use Rattle.coding.proofs.Rows.{first_places, row-bytes, row_long}
 use Rattle.coding.proofs.Selected.{block_long}

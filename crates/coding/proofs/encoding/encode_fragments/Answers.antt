@@ -1,7 +1,6 @@
-use Rattle.std.proofs.Common.{◌≡◌, ℕ, ◌+◌, ◌-◌, ◌*◌, ◌≤◌, leb, List, ◌++◌, length, drop, sym, ap, ◌∙◌, subst, ap₂, arith, rules}
+use Rattle.std.proofs.Common.{◌≡◌, ◌+◌, ◌-◌, ◌*◌, ◌≤◌, leb, ◌++◌, length, drop, sym, ap, ◌∙◌, subst, ap₂, arith, rules}
 use Rattle.std.proofs.lemmas.Bool.{and_from, eq-eqb, le-leb}
 use Rattle.std.proofs.lemmas.List.Edits.{length-between}
-use Rattle.field.specs.Laws.{width}
 use Rattle.shape.specs.Lengths.{row_length, block_length}
 use Rattle.elements.specs.Pieces.{laid}
 use Rattle.coding.specs.Shaped.{is_block, fragment_of, fragments_length}

@@ -1,7 +1,7 @@
-use Rattle.std.proofs.Common.{ℕ, ◌*◌, ◌<◌, ◌≤◌, length, sym, ap, ◌∙◌, subst, arith}
+use Rattle.std.proofs.Common.{◌*◌, ◌≤◌, length, sym, ap, ◌∙◌, subst, arith}
 use Rattle.field.specs.Laws.{width}
 use Rattle.elements.specs.Pieces.{filled}
-use Rattle.shape.specs.Lengths.{row_length, share_rows, vector_length}
+use Rattle.shape.specs.Lengths.{row_length, share_rows}
 use Rattle.coding.specs.Code.{coded}
 use Rattle.coding.proofs.Fits.{fitting-share}
 use Rattle.coding.proofs.Sizes.{share-row-starts, share_rows_enough, share_rows_few}
