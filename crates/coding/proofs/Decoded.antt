@@ -1,6 +1,6 @@
 -- Decoding undoes encoding, and so t + 1 shares fix a commitment vector.
 use Rattle.std.proofs.Common.{◌≡◌, ℕ, ◌+◌, ◌-◌, ◌*◌, ◌<◌, ◌≤◌, List, [], ◌∷◌, map, length, take, drop, replicate, sym, refl, ap, ◌∙◌, ap₂, arith}
-use Rattle.std.specs.List.{AllByRecursion as All}
+use Rattle.std.specs.List.{AllByRecursion}
 use Rattle.std.proofs.ByRecursion.{All-take, All-drop, All-append, All-weaker}
 use Rattle.std.proofs.lemmas.List.{length-append, length-replicate, length-drop, length-take-le, take_at}
 use Rattle.field.specs.Laws.{Arithmetic, RingLaws, FieldLaws, width}
@@ -24,7 +24,7 @@ element-coded R L k q xs j i h =
     ap number (piece-laid (λ i. written (width R) (value i)) (width R) q i h (λ i l. written-length (width R) (value i)))
     ∙ number-written R L (value i) (eval_code R L (piece k xs i) j)
 
-values-coded : (R : Arithmetic) (L : RingLaws R) (k q : ℕ) (xs : List ℕ) (part : ℕ → List ℕ) (i : ℕ) → i < q → (js : List ℕ) → All (λ j. part j ≡ coded R k q xs j) js →
+values-coded : (R : Arithmetic) (L : RingLaws R) (k q : ℕ) (xs : List ℕ) (part : ℕ → List ℕ) (i : ℕ) → i < q → (js : List ℕ) → AllByRecursion (λ j. part j ≡ coded R k q xs j) js →
     map (λ j. element R (part j) i) js ≡ values R (piece k xs i) js
 values-coded R L k q xs part i h [] same = refl
 values-coded R L k q xs part i h (j ∷ js) same =
@@ -33,7 +33,7 @@ values-coded R L k q xs part i h (j ∷ js) same =
 module _ (R : Arithmetic) (inv : ℕ → ℕ) (I : FieldLaws R inv) where
   -- What k boards hold of q rows of k codes gives the rows back.
   pub decoded-coded : (k q : ℕ) (xs js : List ℕ) (part : ℕ → List ℕ) → length js ≡ k → Codes R js → Distinct js → Codes R xs → length xs ≡ q * k →
-      All (λ j. part j ≡ coded R k q xs j) js → decoded R inv q js part ≡ xs
+      AllByRecursion (λ j. part j ≡ coded R k q xs j) js → decoded R inv q js part ≡ xs
   decoded-coded k q xs js part n hj ne hx l same =
       laid_same (λ i. interpolated R inv js (map (λ j. element R (part j) i) js)) (piece k xs) q
       (λ i h.
@@ -48,7 +48,7 @@ module _ (R : Arithmetic) (inv : ℕ → ℕ) (I : FieldLaws R inv) where
   bytes_codes xs = All-weaker (λ b. b < 256) (λ a. a < R.size) (λ x h. omega (arith, I.ring.least)) xs
 
   -- A vector is the front of what its shares decode to.
-  pub shares-decoded : (t : ℕ) (js v : List ℕ) (part : ℕ → List ℕ) → t ≤ 5 → Chosen t js → Bytes v → length v ≡ vector_length t → All (λ j. part j ≡ share R t v j) js →
+  pub shares-decoded : (t : ℕ) (js v : List ℕ) (part : ℕ → List ℕ) → t ≤ 5 → Chosen t js → Bytes v → length v ≡ vector_length t → AllByRecursion (λ j. part j ≡ share R t v j) js →
       decoded R inv (share_rows t) js part ≡ filled (share_rows t * row_length t) v
   shares-decoded t js v part small chosen hv l same =
       let n = share_rows t * row_length t in
@@ -64,6 +64,6 @@ module _ (R : Arithmetic) (inv : ℕ → ℕ) (I : FieldLaws R inv) where
       sym (shares-decoded t js v (share R t v) small chosen hv lv (each js)) ∙ shares-decoded t js u (share R t v) small chosen hu lu same in
       sym (take_at v (replicate (n - length v) 0) (vector_length t) lv) ∙ ap (take (vector_length t)) e ∙ take_at u (replicate (n - length u) 0) (vector_length t) lu
     where
-      each : (js : List ℕ) → All (λ j. share R t v j ≡ share R t v j) js
+      each : (js : List ℕ) → AllByRecursion (λ j. share R t v j ≡ share R t v j) js
       each [] = tt
       each (j ∷ js) = (refl, each js)

@@ -1,6 +1,6 @@
 -- The lengths of a dispersal fit together.
 use Rattle.std.proofs.Common.{◌≡◌, ℕ, ◌+◌, ◌*◌, ◌%◌, ◌<◌, ◌≤◌, List, mod-lt, arith}
-use Rattle.std.specs.List.{AllByRecursion as All}
+use Rattle.std.specs.List.{AllByRecursion}
 use Rattle.std.proofs.lemmas.Nat.{div-add-mod', mul-le}
 use Rattle.std.proofs.ByRecursion.{All-weaker}
 use Rattle.field.specs.Laws.{Arithmetic, RingLaws}
@@ -28,5 +28,5 @@ pub share_rows_few : (t : ℕ) → 1 ≤ t → t ≤ 5 → share_rows t ≤ 512
 share_rows_few t low high = omega (arith, whole t, mul-le (share_rows t) 2 (share_rows t) (row_length t) (omega arith) (omega arith))
 
 -- The numbers of boards are codes of every field.
-pub boards_codes : (R : Arithmetic) (L : RingLaws R) (t : ℕ) (js : List ℕ) → t ≤ 5 → All (λ j. (1 ≤ j) × (j ≤ board_count t)) js → Codes R js
+pub boards_codes : (R : Arithmetic) (L : RingLaws R) (t : ℕ) (js : List ℕ) → t ≤ 5 → AllByRecursion (λ j. (1 ≤ j) × (j ≤ board_count t)) js → Codes R js
 boards_codes R L t js small = All-weaker (λ j. (1 ≤ j) × (j ≤ board_count t)) (λ a. a < R.size) (λ j h. omega (arith, h.1, L.least)) js

@@ -1,6 +1,6 @@
 -- Decoding the fragments of a block answers the block.
 use Rattle.std.proofs.Common.{◌≡◌, ℕ, ◌<◌, true, false, ◌&&◌, eqb, List, length, Some, Ok, Err, Option, Result, sym, refl, ap, ◌∙◌, subst, MatchOption}
-use Rattle.std.specs.List.{AllByRecursion as All}
+use Rattle.std.specs.List.{AllByRecursion}
 use Rattle.std.proofs.ByRecursion.{All-weaker}
 use Rattle.std.proofs.lemmas.Bool.{and_parts, both_ways, eqb-true}
 use Rattle.field.specs.Laws.{Arithmetic, FieldLaws}
@@ -33,7 +33,7 @@ tested R s fragments js block e =
     let q = and_parts (eqb (length fragments) (fragments_length R s)) (are_chosen s js) p.0 in
     record { fragments_long = eqb-true (length fragments) (fragments_length R s) q.0; chosen = q.1; block_fits = p.1 }
 
-module _ (R : Arithmetic) (inv : ℕ → ℕ) (I : FieldLaws R inv) (s : Shape) (fragments js block : List ℕ) (same : All (λ j. held R s fragments j ≡ fragment_of R s block j) js) where
+module _ (R : Arithmetic) (inv : ℕ → ℕ) (I : FieldLaws R inv) (s : Shape) (fragments js block : List ℕ) (same : AllByRecursion (λ j. held R s fragments j ≡ fragment_of R s block j) js) where
   -- The elements of the fragments of a block are codes,
   sound : Sound R s fragments js
   sound =

@@ -5,7 +5,7 @@ use Rattle.hash.specs.Bytes.{Bytes}
 use Rattle.elements.specs.Pieces.{piece, laid, filled}
 use Rattle.elements.specs.Numbers.{written}
 use Rattle.elements.specs.Element.{element}
-use Rattle.std.specs.List.{AllByRecursion as All}
+use Rattle.std.specs.List.{AllByRecursion}
 use Rattle.polynomial.specs.Polynomial.{Distinct, eval, interpolated}
 use Rattle.shape.specs.Lengths.{board_count, row_length, vector_length, share_rows}
 
@@ -28,11 +28,11 @@ decoded R inv q js part = laid (λ i. interpolated R inv js (map (λ j. element 
 -- t + 1 different boards.
 pub record Chosen (t : ℕ) (js : List ℕ) : Type 0 where
   pub enough : length js ≡ row_length t
-  pub boards : All (λ j. (1 ≤ j) × (j ≤ board_count t)) js
+  pub boards : AllByRecursion (λ j. (1 ≤ j) × (j ≤ board_count t)) js
   pub distinct : Distinct js
 
 -- Two commitment vectors whose shares agree at t + 1 boards are equal.
 abbrev pub SharesFixVectors : Arithmetic → ℕ → Type 0
 SharesFixVectors R t =
     (js v u : List ℕ) → Chosen t js → Bytes v → Bytes u → length v ≡ vector_length t → length u ≡ vector_length t →
-    All (λ j. share R t v j ≡ share R t u j) js → v ≡ u
+    AllByRecursion (λ j. share R t v j ≡ share R t u j) js → v ≡ u

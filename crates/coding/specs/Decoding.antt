@@ -1,6 +1,6 @@
 -- What decoding fragments answers.
 use Rattle.std.specs.Prelude.{◌≡◌, ℕ, ◌+◌, ◌-◌, Bool, true, false, ◌&&◌, List, map, length, Ok, Err, Result, ◌==◌}
-use Rattle.std.specs.List.{AllByRecursion as All}
+use Rattle.std.specs.List.{AllByRecursion}
 use Rattle.field.specs.Laws.{Arithmetic, width}
 use Rattle.coding.specs.declared.decoding.Undecodable.{Undecodable}
 use Rattle.coding.specs.declared.decoding.Undecodable.TheVariants.{Unfit, Overrun, Unreadable}
@@ -29,7 +29,7 @@ held R s fragments j = piece (fragment_length (width R) s.rows) fragments (j - 1
 
 -- The elements of the chosen boards' fragments are codes.
 abbrev pub Sound : Arithmetic → Shape → List ℕ → List ℕ → Type 0
-Sound R s fragments js = All (λ j. Elements R (held R s fragments j) s.rows) js
+Sound R s fragments js = AllByRecursion (λ j. Elements R (held R s fragments j) s.rows) js
 
 -- The points of row i: the chosen boards, and the values that their fragments have there.
 abbrev pub points_of : Arithmetic → Shape → List ℕ → List ℕ → ℕ → List (ℕ × ℕ)
@@ -56,7 +56,7 @@ Decoding R inv s fragments js before (Err Unreadable) after =
 abbrev pub DecodingUndoesEncoding : Arithmetic → Shape → List ℕ → List ℕ → List ℕ → Result (Unit {0}) Undecodable → List ℕ → Type 0
 DecodingUndoesEncoding R s fragments js before r after =
     (block : List ℕ) → Bytes block → length block ≡ block_length s.faults s.rows → decode_fits R s fragments js before ≡ true →
-    All (λ j. held R s fragments j ≡ fragment_of R s block j) js → (r ≡ Ok tt) × (after ≡ block)
+    AllByRecursion (λ j. held R s fragments j ≡ fragment_of R s block j) js → (r ≡ Ok tt) × (after ≡ block)
 
 -- The whole promise of decoding.
 pub record Decodes (R : Arithmetic) (inv : ℕ → ℕ) (s : Shape) (fragments js before : List ℕ) (r : Result (Unit {0}) Undecodable) (after : List ℕ) : Type 0 where

@@ -1,6 +1,6 @@
 -- The coefficients that a Lagrange basis makes of values, as sums of products, are those of the polynomial with these values.
 use Rattle.std.proofs.Common.{◌≡◌, ℕ, zero, suc, ◌+◌, ◌<◌, ◌≤◌, ◌≢◌, List, [], ◌∷◌, map, length, get_or, take, drop, replicate, sym, refl, ap, ◌∙◌, ap₂, zero-add, add-one, arith, drop-cons}
-use Rattle.std.specs.List.{range_with_len, AllByRecursion as All}
+use Rattle.std.specs.List.{range_with_len, AllByRecursion}
 use Rattle.std.proofs.lemmas.List.{ext_get_or, get_or-replicate, get_or-map, get_or-set_same, get_or-set_other, get_or-take, length-map, length-replicate, length-set, take-replicate}
 use Rattle.std.proofs.ByRecursion.{All-from_get_or, All-get_or, All-set}
 use Rattle.std.proofs.lemmas.List.FromFn.{get_or-map-range_with_len, length-map-range_with_len}
@@ -24,7 +24,7 @@ weighted R k (v ∷ vs) [] = replicate k 0
 weighted R k (v ∷ vs) (b ∷ bs) = plus R (map (R.mul v) b) (weighted R k vs bs)
 
 abbrev Long : ℕ → List (List ℕ) → Type 0
-Long k = All (λ b. length b ≡ k)
+Long k = AllByRecursion (λ b. length b ≡ k)
 
 plus-length : (R : Arithmetic) (p q : List ℕ) → length p ≡ length q → length (plus R p q) ≡ length q
 plus-length R [] [] n = refl
@@ -120,7 +120,7 @@ module _ (R : Arithmetic) (L : RingLaws R) where
   weighted_codes k (v ∷ vs) [] = zeros_codes R L k
   weighted_codes k (v ∷ vs) (b ∷ bs) = plus_codes (map (R.mul v) b) (weighted R k vs bs)
 
-  eval-weighted : (k : ℕ) (vs : List ℕ) (bs : List (List ℕ)) (x : ℕ) → x < R.size → Codes R vs → All (Codes R) bs → Long k bs →
+  eval-weighted : (k : ℕ) (vs : List ℕ) (bs : List (List ℕ)) (x : ℕ) → x < R.size → Codes R vs → AllByRecursion (Codes R) bs → Long k bs →
       eval R (weighted R k vs bs) x ≡ dot R vs (map (λ b. eval R b x) bs)
   eval-weighted k [] bs x hx hv hb n = eval_zeros R L k x hx
   eval-weighted k (v ∷ vs) [] x hx hv hb n = eval_zeros R L k x hx
@@ -181,7 +181,7 @@ module _ (R : Arithmetic) (inv : ℕ → ℕ) (I : FieldLaws R inv) (xs : List �
   rows_long [] = tt
   rows_long (j ∷ js) = (interpolated-length R inv xs (unit (length xs) j) (unit-length (length xs) j), rows_long js)
 
-  rows_codes : (js : List ℕ) → All (Codes R) (map (row R inv xs) js)
+  rows_codes : (js : List ℕ) → AllByRecursion (Codes R) (map (row R inv xs) js)
   rows_codes [] = tt
   rows_codes (j ∷ js) = (interpolated_codes R inv I xs (unit (length xs) j) (unit_codes R I.ring (length xs) j), rows_codes js)
 

@@ -3,7 +3,7 @@ use Rattle.std.proofs.Common.{◌≡◌, ℕ, suc, ◌<◌, List, [], ◌∷◌,
 use Rattle.std.proofs.lemmas.List.{length-map}
 use Rattle.field.specs.Laws.{Arithmetic, RingLaws, FieldLaws}
 use Rattle.field.proofs.Rings.{mul-zero, equal, add-sub, sub_self, zero-mul, one-mul}
-use Rattle.std.specs.List.{AllByRecursion as All}
+use Rattle.std.specs.List.{AllByRecursion}
 use Rattle.polynomial.specs.Polynomial.{Codes, Distinct, eval, values, slopes, raised, interpolated, Interpolates}
 use Rattle.polynomial.proofs.Evaluation.{eval_code}
 use Rattle.polynomial.proofs.Roots.{regroup, unique}
@@ -25,11 +25,11 @@ interpolated-length R inv (x ∷ xs) (v ∷ vs) n =
     raised-length R x v (interpolated R inv xs (slopes R inv (x, v) xs vs))
     ∙ ap suc (interpolated-length R inv xs (slopes R inv (x, v) xs vs) (slopes-length R inv (x, v) xs vs m))
 
-pub each : (f g : ℕ → ℕ) (xs : List ℕ) → map f xs ≡ map g xs → All (λ x. f x ≡ g x) xs
+pub each : (f g : ℕ → ℕ) (xs : List ℕ) → map f xs ≡ map g xs → AllByRecursion (λ x. f x ≡ g x) xs
 each f g [] e = tt
 each f g (x ∷ xs) e = (cc, each f g xs (cc))
 
-pub map_codes : (q : ℕ) (f : ℕ → ℕ) (xs : List ℕ) → ((x : ℕ) → f x < q) → All (λ a. a < q) (map f xs)
+pub map_codes : (q : ℕ) (f : ℕ → ℕ) (xs : List ℕ) → ((x : ℕ) → f x < q) → AllByRecursion (λ a. a < q) (map f xs)
 map_codes q f [] h = tt
 map_codes q f (x ∷ xs) h = (h x, map_codes q f xs h)
 
@@ -71,7 +71,7 @@ module _ (R : Arithmetic) (inv : ℕ → ℕ) (I : FieldLaws R inv) where
       ap (R.add v) (sym (I.ring.mul_assoc d (inv d) e hd (I.inv_code d) he) ∙ ap (λ y. R.mul y e) (I.mul-inv d hd nz) ∙ one-mul R I.ring e he)
       ∙ add-sub R I.ring w v hw hv
 
-  others : (r v : ℕ) (cs ys ws : List ℕ) → r < R.size → v < R.size → Codes R cs → Codes R ys → Codes R ws → All (λ y. y ≡ r → ⊥) ys →
+  others : (r v : ℕ) (cs ys ws : List ℕ) → r < R.size → v < R.size → Codes R cs → Codes R ys → Codes R ws → AllByRecursion (λ y. y ≡ r → ⊥) ys →
       length ws ≡ length ys → map (eval R cs) ys ≡ slopes R inv (r, v) ys ws → map (eval R (raised R r v cs)) ys ≡ ws
   others r v cs [] [] hr hv hc hy hw ne n e = refl
   others r v cs [] (w ∷ ws) hr hv hc hy hw ne n e = absurd (omega arith)

@@ -5,7 +5,7 @@ use Rattle.std.proofs.lemmas.List.{at_drop_more}
 use Rattle.std.proofs.lemmas.Bool.{and_parts, leb-true, ltb-true}
 use Rattle.std.proofs.lemmas.Bool.Decides.{nat_tests}
 use Rattle.field.specs.Laws.{Arithmetic}
-use Rattle.std.specs.List.{AllByRecursion as All}
+use Rattle.std.specs.List.{AllByRecursion}
 use Rattle.polynomial.specs.Polynomial.{Codes, Distinct}
 use Rattle.polynomial.specs.Interpolation.{rising, admitted}
 
@@ -27,11 +27,11 @@ rising_parts low high x xs t =
     let q = and_parts _ _ p.0 in
     (leb-true low x q.0, ltb-true x high q.1, p.1)
 
-pub rising_below : (low high : ℕ) (xs : List ℕ) → rising low high xs ≡ true → All (λ x. x < high) xs
+pub rising_below : (low high : ℕ) (xs : List ℕ) → rising low high xs ≡ true → AllByRecursion (λ x. x < high) xs
 rising_below low high [] t = tt
 rising_below low high (x ∷ xs) t = let p = rising_parts low high x xs t in (p.1, rising_below (x + 1) high xs p.2)
 
-pub rising-from : (low high : ℕ) (xs : List ℕ) → rising low high xs ≡ true → All (λ x. low ≤ x) xs
+pub rising-from : (low high : ℕ) (xs : List ℕ) → rising low high xs ≡ true → AllByRecursion (λ x. low ≤ x) xs
 rising-from low high [] t = tt
 rising-from low high (x ∷ xs) t =
     let p = rising_parts low high x xs t in

@@ -2,7 +2,7 @@
 use Rattle.std.proofs.Common.{◌≡◌, ℕ, suc, ◌<◌, List, [], ◌∷◌, length, sym, refl, ap, ◌∙◌, ap₂, arith}
 use Rattle.field.specs.Laws.{Arithmetic, RingLaws, FieldLaws}
 use Rattle.field.proofs.Rings.{add_cancel, mul-zero, equal, add-mul, add-sub, mul_cancel}
-use Rattle.std.specs.List.{AllByRecursion as All}
+use Rattle.std.specs.List.{AllByRecursion}
 use Rattle.polynomial.specs.Polynomial.{Codes, Distinct, eval}
 use Rattle.polynomial.proofs.Evaluation.{eval_code}
 
@@ -70,8 +70,8 @@ module _ (R : Arithmetic) (L : RingLaws R) where
 
 module _ (R : Arithmetic) (inv : ℕ → ℕ) (I : FieldLaws R inv) where
   agree_below : (r c c' : ℕ) (s s' ys : List ℕ) → r < R.size → c < R.size → c' < R.size → Codes R s → Codes R s' → Codes R ys →
-      All (λ y. y ≡ r → ⊥) ys → eval R (c ∷ s) r ≡ eval R (c' ∷ s') r →
-      All (λ y. eval R (c ∷ s) y ≡ eval R (c' ∷ s') y) ys → All (λ y. eval R (quotient R r s) y ≡ eval R (quotient R r s') y) ys
+      AllByRecursion (λ y. y ≡ r → ⊥) ys → eval R (c ∷ s) r ≡ eval R (c' ∷ s') r →
+      AllByRecursion (λ y. eval R (c ∷ s) y ≡ eval R (c' ∷ s') y) ys → AllByRecursion (λ y. eval R (quotient R r s) y ≡ eval R (quotient R r s') y) ys
   agree_below r c c' s s' [] hr hc hc' hs hs' hy ne e a = tt
   agree_below r c c' s s' (y ∷ ys) hr hc hc' hs hs' hy ne e a =
       let d = R.sub y r in
@@ -95,7 +95,7 @@ module _ (R : Arithmetic) (inv : ℕ → ℕ) (I : FieldLaws R inv) where
 
   -- k coefficients, k distinct codes
   pub unique : (xs p p' : List ℕ) → length p ≡ length xs → length p' ≡ length xs → Codes R p → Codes R p' → Codes R xs → Distinct xs →
-      All (λ x. eval R p x ≡ eval R p' x) xs → p ≡ p'
+      AllByRecursion (λ x. eval R p x ≡ eval R p' x) xs → p ≡ p'
   unique [] [] [] n n' hp hp' hx ne a = refl
   unique [] [] (c' ∷ s') n n' hp hp' hx ne a = absurd (omega arith)
   unique [] (c ∷ s) p' n n' hp hp' hx ne a = absurd (omega arith)

@@ -1,15 +1,15 @@
 -- Polynomials over the codes of a field, as lists of coefficients with the constant one first; their values, and the polynomial through given points.
 use Rattle.std.specs.Prelude.{◌≡◌, ℕ, ◌<◌, List, [], ◌∷◌, map, length, take, replicate, ◌≢◌, slice_index, slice_index_or, slice_set}
-use Rattle.std.specs.List.{range_with_len, AllByRecursion as All}
+use Rattle.std.specs.List.{range_with_len, AllByRecursion}
 use Rattle.field.specs.Laws.{Arithmetic}
 
 abbrev pub Codes : Arithmetic → List ℕ → Type 0
-Codes R = All (λ a. a < R.size)
+Codes R = AllByRecursion (λ a. a < R.size)
 
 -- No two elements are equal.
 abbrev pub Distinct : List ℕ → Type 0
 Distinct [] = Unit {0}
-Distinct (x ∷ xs) = All (λ y. y ≢ x) xs × Distinct xs
+Distinct (x ∷ xs) = AllByRecursion (λ y. y ≢ x) xs × Distinct xs
 
 -- The value at x of the polynomial with these coefficients.
 abbrev pub eval : Arithmetic → List ℕ → ℕ → ℕ

@@ -1,6 +1,6 @@
 //! The polynomial through given points, by divided differences after Newton, and for many rows by a Lagrange basis.
 ghost use Rattle.std.specs.Prelude.{◌≡◌, ℕ, ◌<◌, ◌≤◌, true, false, List, length, take, IsSomeAnd, MatchOption};
-ghost use Rattle.polynomial.specs.Interpolation.{admitted, answered, codes_of, rising as is-rising, stands_at, values_of, BasisOf, Solves};
+ghost use Rattle.polynomial.specs.Interpolation.{admitted, answered, codes_of, rising as is_rising, stands_at, values_of, BasisOf, Solves};
 ghost use Rattle.polynomial.specs.Polynomial.{column, dot, interpolated, lifted, slope as divided_difference, slopes, unit, Codes, Distinct, IsBasis};
 
 use field::Field;
@@ -69,7 +69,7 @@ fn is_admitted<F: Field>(codes: &[u16]) -> bool
 
 /// Whether the codes rise, the first at least `low` and all below `high`; codes that rise are distinct.
 pub fn rising(codes: &[u16], low: u32, high: u32) -> bool
-    ensures { result ≡ is-rising low high codes.now }
+    ensures { result ≡ is_rising low high codes.now }
 {
     let mut least = low;
     for code in codes {

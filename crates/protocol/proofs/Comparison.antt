@@ -1,7 +1,7 @@
 -- A comparison of two parties that hold something is never unexplained.
 use Rattle.std.proofs.Common.{◌≡◌, ℕ, zero, suc, ◌+◌, ◌≤◌, Bool, true, false, cond, not, ◌&&◌, eqb, ◌⊎◌, List, [], ◌∷◌, Some, None, Option, unwrap_or, sym, refl, ap, ◌∙◌, subst, inl, inr, arith}
 use Rattle.std.specs.Option.{option_map}
-use Rattle.std.specs.List.{ContainsAt as Has, AllByRecursion as All}
+use Rattle.std.specs.List.{ContainsAt as Has, AllByRecursion}
 use Rattle.std.specs.Str.{bytes_eq}
 use Rattle.std.proofs.ByRecursion.{All-weaker, all-has}
 use Rattle.std.proofs.lemmas.Bool.{and_from, and_left, both_ways, cases_Bool, cond-true, cond-false, ne_eqb, not_from_true, not_from_false, false≢true}
@@ -63,13 +63,13 @@ pub record Seen (S : Setting) (w : List ℕ) (x : ℕ → Bytes) (js : List ℕ)
 later : (j : ℕ) (js : List ℕ) (i : ℕ) → Has js i → Has (j ∷ js) i
 later j js i h = (suc h.0, omega (arith, h.1), h.2)
 
-seek : (S : Setting) (w : List ℕ) (x : ℕ → Bytes) (js : List ℕ) → All (λ j. S.digest j (S.fragment w j) ≡ S.digest j (x j)) js →
-    All (λ j. x j ≡ S.fragment w j) js ⊎ Seen S w x js
+seek : (S : Setting) (w : List ℕ) (x : ℕ → Bytes) (js : List ℕ) → AllByRecursion (λ j. S.digest j (S.fragment w j) ≡ S.digest j (x j)) js →
+    AllByRecursion (λ j. x j ≡ S.fragment w j) js ⊎ Seen S w x js
 seek S w x [] one = inl tt
 seek S w x (j ∷ js) one = go (bytes_eq (S.fragment w j) (x j)) refl (seek S w x js one.1)
   where
-    go : (b : Bool) → bytes_eq (S.fragment w j) (x j) ≡ b → All (λ j. x j ≡ S.fragment w j) js ⊎ Seen S w x js →
-        All (λ j. x j ≡ S.fragment w j) (j ∷ js) ⊎ Seen S w x (j ∷ js)
+    go : (b : Bool) → bytes_eq (S.fragment w j) (x j) ≡ b → AllByRecursion (λ j. x j ≡ S.fragment w j) js ⊎ Seen S w x js →
+        AllByRecursion (λ j. x j ≡ S.fragment w j) (j ∷ js) ⊎ Seen S w x (j ∷ js)
     go true e (inl all) = inl (sym (same_eq _ _ e), all)
     go true e (inr s) =
         inr
@@ -96,7 +96,7 @@ heard_fragment xs j = unwrap_or (xs j) []
 abbrev Fit : Setting → Bytes → (ℕ → Option Bytes) → ℕ → Type 0
 Fit S v xs j = IsBoard S j × (fits S j v (heard_fragment xs j) ≡ true) × (xs j ≡ Some (heard_fragment xs j))
 
-chosen_fit : (S : Setting) (v : Bytes) (xs : ℕ → Option Bytes) → All (Fit S v xs) (chosen S v xs)
+chosen_fit : (S : Setting) (v : Bytes) (xs : ℕ → Option Bytes) → AllByRecursion (Fit S v xs) (chosen S v xs)
 chosen_fit S v xs =
     All-weaker (Passing (fitting S v xs) (boards S)) (Fit S v xs)
     (λ j p.

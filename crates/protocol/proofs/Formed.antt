@@ -1,6 +1,6 @@
 -- What is delivered has the form of its kind, and so has what boards keep, issue and complete with.
 use Rattle.std.proofs.Common.{◌≡◌, ℕ, ◌≤◌, true, [], ◌∷◌, Some, Option, sym, refl, ap, ◌∙◌, subst, inl, inr, arith}
-use Rattle.std.specs.List.{AllByRecursion as All}
+use Rattle.std.specs.List.{AllByRecursion}
 use Rattle.std.proofs.lemmas.Bool.{and_parts, and_from}
 use Rattle.protocol.specs.Messages.{Bytes, Message, send, echo, ready, hash, symbol, kind, sender, sent, echoed, readied}
 use Rattle.protocol.specs.Setting.{Setting, Laws, boards, formed}
@@ -13,7 +13,7 @@ use Rattle.protocol.proofs.Delivered.{inbox_cases, inbox_none, design-block, sen
 
 -- All messages of a history have the form of their kinds.
 abbrev pub Clean : Setting → History → Type 0
-Clean S = All (λ m. formed S m ≡ true)
+Clean S = AllByRecursion (λ m. formed S m ≡ true)
 
 -- What was heard came in such a message.
 pub heard-formed : {A : Type 0} (S : Setting) (carried : Message → Option A) (h : History) (a : A) → Clean S h → heard carried h ≡ Some a →

@@ -1,6 +1,6 @@
 -- The lowest of the numbers that pass a test: how many they are, and that they are within bounds and pass.
 use Rattle.std.proofs.Common.{◌≡◌, ℕ, zero, suc, ◌+◌, ◌<◌, ◌≤◌, Bool, true, false, cond, List, [], ◌∷◌, ◌++◌, length, take, sym, refl, ap, ◌∙◌, subst, arith}
-use Rattle.std.specs.List.{AllByRecursion as All}
+use Rattle.std.specs.List.{AllByRecursion}
 use Rattle.std.proofs.ByRecursion.{All-take, All-push, All-weaker}
 use Rattle.std.proofs.lemmas.List.{append-nil, length-append, take_all, take-append-le}
 use Rattle.protocol.specs.Counting.{tick, count, those, lowest}
@@ -23,19 +23,19 @@ module _ (A : ℕ → Bool) where
       go true xs l = length-append xs (suc k ∷ []) ∙ omega arith
       go false xs l = ap length (append-nil xs) ∙ omega arith
 
-  pub those_pass : (k : ℕ) → All (Passing A k) (those A k)
+  pub those_pass : (k : ℕ) → AllByRecursion (Passing A k) (those A k)
   unfolding those
   those_pass zero = tt
   those_pass (suc k) = go (A (suc k)) refl (those A k) (those_pass k)
     where
-      wider : (xs : List ℕ) → All (Passing A k) xs → All (Passing A (suc k)) xs
+      wider : (xs : List ℕ) → AllByRecursion (Passing A k) xs → AllByRecursion (Passing A (suc k)) xs
       wider = All-weaker (Passing A k) (Passing A (suc k)) (λ i p. (p.0, omega (arith, p.1), p.2))
 
-      go : (b : Bool) → A (suc k) ≡ b → (xs : List ℕ) → All (Passing A k) xs → All (Passing A (suc k)) (more k b xs)
+      go : (b : Bool) → A (suc k) ≡ b → (xs : List ℕ) → AllByRecursion (Passing A k) xs → AllByRecursion (Passing A (suc k)) (more k b xs)
       go true e xs all = All-push (Passing A (suc k)) xs (suc k) (wider xs all) (omega arith, omega arith, e)
-      go false e xs all = subst (All (Passing A (suc k))) (sym (append-nil xs)) (wider xs all)
+      go false e xs all = subst (AllByRecursion (Passing A (suc k))) (sym (append-nil xs)) (wider xs all)
 
-  pub lowest_pass : (m k : ℕ) → All (Passing A k) (lowest m A k)
+  pub lowest_pass : (m k : ℕ) → AllByRecursion (Passing A k) (lowest m A k)
   lowest_pass m k = All-take (Passing A k) m (those A k) (those_pass k)
 
   -- The lowest of the numbers 1 to k + 1, where those of 1 to k are enough, and where k + 1 is needed too.

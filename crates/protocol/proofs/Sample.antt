@@ -1,6 +1,6 @@
 -- The promises are not empty: a setting in which every board keeps a copy of the block, and a log in which all comes to its end.
 use Rattle.std.proofs.Common.{◌≡◌, ℕ, zero, suc, ◌+◌, ◌*◌, ◌≤◌, Bool, true, false, not, leb, List, [], ◌∷◌, ◌++◌, length, Some, None, Option, unwrap_or, sym, refl, ap, ◌∙◌, subst, inl, inr, arith, lit<, lit≤}
-use Rattle.std.specs.List.{AllByRecursion as All}
+use Rattle.std.specs.List.{AllByRecursion}
 use Rattle.std.specs.Str.{bytes_eq}
 use Rattle.std.proofs.lemmas.List.{length-take-le}
 use Rattle.std.proofs.lemmas.Bool.{leb-true, le-leb, cases_eq, both_ways, cond-true, not-true}
@@ -81,7 +81,7 @@ copies-find t words v p =
     let w = look_finds (backed t words) words (3 * t + 1) r.0 v r.1 r.2 is p in
     w.1 ∙ ap Some (backed-one t words w.0 v (look_passes (backed t words) words (3 * t + 1) w.0 w.1) p)
 
-first_of : (js : List ℕ) (x : ℕ → Bytes) (c : Bytes) → 1 ≤ length js → All (λ j. x j ≡ c) js → unwrap_or (first_at (λ j. Some (x j)) js) [] ≡ c
+first_of : (js : List ℕ) (x : ℕ → Bytes) (c : Bytes) → 1 ≤ length js → AllByRecursion (λ j. x j ≡ c) js → unwrap_or (first_at (λ j. Some (x j)) js) [] ≡ c
 first_of [] x c some all = absurd (omega arith)
 first_of (j ∷ js) x c some all = all.0
 

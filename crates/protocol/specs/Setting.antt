@@ -1,7 +1,7 @@
 -- What the protocol is run with: how many boards and fetchers there are, what byte strings look like, and what is made of them.
 -- The protocol knows no more of digests, shares and codes than the laws below.
 use Rattle.std.specs.Prelude.{◌≡◌, ℕ, ◌+◌, ◌*◌, ◌<◌, ◌≤◌, Bool, true, ◌&&◌, List, Some, Option}
-use Rattle.std.specs.List.{AllByRecursion as All}
+use Rattle.std.specs.List.{AllByRecursion}
 use Rattle.std.specs.Str.{bytes_eq}
 use Rattle.protocol.specs.Optional.{meets}
 use Rattle.protocol.specs.Counting.{count, lowest}
@@ -82,8 +82,8 @@ pub record Laws (S : Setting) : Type 0 where
   pub finds : (heard : ℕ → Option Bytes) (v : Bytes) → Known S heard v → S.find heard ≡ Some v
   -- What is interpolated from fragments of t + 1 boards are coefficients, and from the fragments of coefficients, these.
   pub interpolated_rows : (A : ℕ → Bool) (x : ℕ → Bytes) → support S ≤ count A (boards S)
-      → All (λ j. S.is_fragment (x j) ≡ true) (lowest (support S) A (boards S))
+      → AllByRecursion (λ j. S.is_fragment (x j) ≡ true) (lowest (support S) A (boards S))
       → S.is_rows (S.interpolate (lowest (support S) A (boards S)) x) ≡ true
   pub interpolated_back : (A : ℕ → Bool) (x : ℕ → Bytes) (c : List ℕ) → support S ≤ count A (boards S) → S.is_rows c ≡ true
-      → All (λ j. x j ≡ S.fragment c j) (lowest (support S) A (boards S))
+      → AllByRecursion (λ j. x j ≡ S.fragment c j) (lowest (support S) A (boards S))
       → S.interpolate (lowest (support S) A (boards S)) x ≡ c

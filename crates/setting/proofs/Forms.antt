@@ -1,6 +1,6 @@
 -- What the tests on byte strings tell, and that what is coded and laid has the form that is asked for.
 use Rattle.std.proofs.Common.{◌≡◌, ℕ, zero, suc, ◌+◌, ◌-◌, ◌*◌, ◌/◌, ◌%◌, ◌<◌, true, eqb, ltb, List, [], ◌∷◌, length, sym, refl, subst, mod-lt, arith}
-use Rattle.std.specs.List.{AllByRecursion as All}
+use Rattle.std.specs.List.{AllByRecursion}
 use Rattle.std.proofs.ByRecursion.{All-append, All-push}
 use Rattle.std.proofs.lemmas.Bool.{and_parts, and_from, eqb-true, eq-eqb, ltb-true, lt-ltb}
 use Rattle.field.specs.Laws.{Arithmetic, RingLaws, width}
@@ -19,14 +19,14 @@ use Rattle.protocol.proofs.Counting.{every_at, every-from}
 
 -- n numbers, all below q.
 abbrev pub AreBelow : ℕ → ℕ → List ℕ → Type 0
-AreBelow q n xs = (length xs ≡ n) × All (λ x. x < q) xs
+AreBelow q n xs = (length xs ≡ n) × AllByRecursion (λ x. x < q) xs
 
-all_below_true : (q : ℕ) (xs : List ℕ) → all_below q xs ≡ true → All (λ x. x < q) xs
+all_below_true : (q : ℕ) (xs : List ℕ) → all_below q xs ≡ true → AllByRecursion (λ x. x < q) xs
 unfolding all_below
 all_below_true q [] e = tt
 all_below_true q (x ∷ xs) e = let p = and_parts (ltb x q) (all_below q xs) e in (ltb-true x q p.0, all_below_true q xs p.1)
 
-all_below-from : (q : ℕ) (xs : List ℕ) → All (λ x. x < q) xs → all_below q xs ≡ true
+all_below-from : (q : ℕ) (xs : List ℕ) → AllByRecursion (λ x. x < q) xs → all_below q xs ≡ true
 unfolding all_below
 all_below-from q [] all = refl
 all_below-from q (x ∷ xs) all = and_from (ltb x q) (all_below q xs) (lt-ltb x q all.0) (all_below-from q xs all.1)
@@ -54,7 +54,7 @@ module _ (R : Arithmetic) (q : ℕ) (x : List ℕ) where
       (every-from (λ i. ltb (element R x (i - 1)) R.size) q (λ i low high. lt-ltb (element R x (i - 1)) R.size (codes (i - 1) (omega arith))))
 
 -- What holds of each number of each piece holds of all that is laid.
-pub all_laid : (P : ℕ → Type 0) (f : ℕ → List ℕ) (n : ℕ) → ((i : ℕ) → i < n → All P (f i)) → All P (laid f n)
+pub all_laid : (P : ℕ → Type 0) (f : ℕ → List ℕ) (n : ℕ) → ((i : ℕ) → i < n → AllByRecursion P (f i)) → AllByRecursion P (laid f n)
 unfolding laid
 all_laid P f zero each = tt
 all_laid P f (suc n) each = All-append P (laid f n) (f n) (all_laid P f n (λ i h. each i (omega arith))) (each n (omega arith))

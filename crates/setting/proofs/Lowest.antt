@@ -1,6 +1,6 @@
 -- The t + 1 lowest of the boards that pass a test are t + 1 different boards.
 use Rattle.std.proofs.Common.{◌≡◌, ℕ, zero, suc, ◌+◌, ◌*◌, ◌≤◌, Bool, true, false, List, [], ◌∷◌, ◌++◌, take, sym, subst, arith}
-use Rattle.std.specs.List.{AllByRecursion as All}
+use Rattle.std.specs.List.{AllByRecursion}
 use Rattle.std.proofs.ByRecursion.{All-take, All-push, All-weaker}
 use Rattle.std.proofs.lemmas.List.{append-nil, length-take-le}
 use Rattle.polynomial.specs.Polynomial.{Distinct}
@@ -8,7 +8,7 @@ use Rattle.coding.specs.Code.{Chosen}
 use Rattle.protocol.specs.Counting.{count, those, lowest}
 use Rattle.protocol.proofs.Lowest.{more, Passing, those-length, those_pass, lowest_pass}
 
-distinct_push : (xs : List ℕ) (x : ℕ) → Distinct xs → All (λ y. x ≡ y → ⊥) xs → Distinct (xs ++ x ∷ [])
+distinct_push : (xs : List ℕ) (x : ℕ) → Distinct xs → AllByRecursion (λ y. x ≡ y → ⊥) xs → Distinct (xs ++ x ∷ [])
 distinct_push [] x d new = (tt, tt)
 distinct_push (y ∷ xs) x d new = (All-push (λ z. z ≡ y → ⊥) xs x d.0 new.0, distinct_push xs x d.1 new.1)
 
@@ -23,7 +23,7 @@ module _ (A : ℕ → Bool) where
   those_distinct zero = tt
   those_distinct (suc k) = go (A (suc k)) (those A k) (those_pass A k) (those_distinct k)
     where
-      go : (b : Bool) (xs : List ℕ) → All (Passing A k) xs → Distinct xs → Distinct (more k b xs)
+      go : (b : Bool) (xs : List ℕ) → AllByRecursion (Passing A k) xs → Distinct xs → Distinct (more k b xs)
       go true xs all d = distinct_push xs (suc k) d (All-weaker (Passing A k) (λ y. suc k ≡ y → ⊥) (λ y p e. omega (arith, p.1)) xs all)
       go false xs all d = subst Distinct (sym (append-nil xs)) d
 

@@ -1,6 +1,6 @@
 -- What is interpolated from the fragments of t + 1 boards: coefficients of all rows, and those that the fragments were made of.
 use Rattle.std.proofs.Common.{◌≡◌, ℕ, ◌+◌, ◌<◌, ◌≤◌, Bool, true, List, map, length, ◌∙◌}
-use Rattle.std.specs.List.{AllByRecursion as All}
+use Rattle.std.specs.List.{AllByRecursion}
 use Rattle.std.proofs.ByRecursion.{All-map, All-weaker}
 use Rattle.std.proofs.lemmas.List.{length-map}
 use Rattle.field.specs.Laws.{Arithmetic, FieldLaws}
@@ -27,7 +27,7 @@ module _ (R : Arithmetic) (inv : ℕ → ℕ) (I : FieldLaws R inv) (t r : ℕ) 
   row_long : (i : ℕ) → length (row i) ≡ row_length t
   row_long i = interpolated-length R inv js (map (λ j. element R (x j) i) js) (length-map js (λ j. element R (x j) i)) ∙ (lowest-chosen A t many).enough
 
-  pub interpolated_rows : All (λ j. is_part R r (x j) ≡ true) js → are_below R.size (block_length t r) (decoded R inv r js x) ≡ true
+  pub interpolated_rows : AllByRecursion (λ j. is_part R r (x j) ≡ true) js → are_below R.size (block_length t r) (decoded R inv r js x) ≡ true
   interpolated_rows parts =
       are_below-from R.size (block_length t r) (decoded R inv r js x) (
         length-laid row (row_length t) r (λ i h. row_long i),
@@ -37,7 +37,7 @@ module _ (R : Arithmetic) (inv : ℕ → ℕ) (I : FieldLaws R inv) (t r : ℕ) 
             (All-weaker (λ j. is_part R r (x j) ≡ true) (λ j. element R (x j) i < R.size) (λ j e. part_elements R r (x j) e i h) js parts))),
       )
 
-  pub interpolated_back : t ≤ 5 → (c : List ℕ) → are_below R.size (block_length t r) c ≡ true → All (λ j. x j ≡ fragment R t r c j) js → decoded R inv r js x ≡ c
+  pub interpolated_back : t ≤ 5 → (c : List ℕ) → are_below R.size (block_length t r) c ≡ true → AllByRecursion (λ j. x j ≡ fragment R t r c j) js → decoded R inv r js x ≡ c
   interpolated_back small c e same =
       let p = are_below_true R.size (block_length t r) c e in
       let chosen = lowest-chosen A t many in
