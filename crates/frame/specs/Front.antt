@@ -1,5 +1,5 @@
 -- The front of a frame, whose sections are still to be read.
-use Rattle.std.specs.Prelude.{◌≡◌, ℕ, ◌≤◌, true, length, drop, Some, slice_index, slice_index_or}
+use Rattle.std.specs.Prelude.{◌≡◌, ℕ, ◌≤◌, true, length, drop, Some, slice_index}
 use Rattle.shape.specs.declared.Shape.{Shape}
 use Rattle.protocol.specs.declared.kind.Kind.{Kind}
 use Rattle.protocol.specs.Messages.{Bytes}
@@ -11,5 +11,5 @@ pub record Front (s : Shape) (b : Bytes) (k : Kind) (i : ℕ) (rest : Bytes) : T
   pub kind_is : numbered (slice_index b 0) ≡ Some k
   pub sender_is : i ≡ slice_index b 1
   pub sender_ok : is_sender s k (slice_index b 1) ≡ true
-  pub count_ok : slice_index_or b 2 0 ≡ digests s k
+  pub count_ok : slice_index b 2 ≡ digests s k
   pub rest_is : rest ≡ drop 3 b

@@ -30,12 +30,12 @@ column_end m i =
     (cases_eq (length m % 32) 0)
 
 -- past the end of a byte string stands 0
-get_or-byte : (m : List ℕ) → Bytes m → (i : ℕ) → slice_index m i < 256
-get_or-byte [] b i = omega arith
-get_or-byte (x ∷ m) b zero = b.0
-get_or-byte (x ∷ m) b (suc i) = get_or-byte m b.1 i
+byte_at : (m : List ℕ) → Bytes m → (i : ℕ) → slice_index m i < 256
+byte_at [] b i = omega arith
+byte_at (x ∷ m) b zero = b.0
+byte_at (x ∷ m) b (suc i) = byte_at m b.1 i
 
 -- a column of bytes adds up to a byte
 pub column_byte : (m : List ℕ) → Bytes m → (k i : ℕ) → column m k i < 256
 column_byte m b zero i = omega arith
-column_byte m b (suc k) i = xor_lt 8 (column m k i) (slice_index m (32 * k + i)) (column_byte m b k i) (get_or-byte m b (32 * k + i))
+column_byte m b (suc k) i = xor_lt 8 (column m k i) (slice_index m (32 * k + i)) (column_byte m b k i) (byte_at m b (32 * k + i))

@@ -1,5 +1,5 @@
 -- SHA-256 as FIPS 180-4 has it, over byte strings; a number in a comment is that standard's section. Assumes nothing.
-use Rattle.std.specs.Prelude.{ℕ, zero, suc, ◌+◌, ◌-◌, ◌*◌, ◌/◌, ◌%◌, ◌^◌, List, [], ◌∷◌, ◌++◌, map, length, take, drop, replicate, bit_and, bit_or, bit_xor, slice_index, slice_index_or}
+use Rattle.std.specs.Prelude.{ℕ, zero, suc, ◌+◌, ◌-◌, ◌*◌, ◌/◌, ◌%◌, ◌^◌, List, [], ◌∷◌, ◌++◌, map, length, take, drop, replicate, bit_and, bit_or, bit_xor, slice_index}
 use Rattle.std.specs.List.{range_with_len, flat_map}
 use Rattle.hash.specs.declared.sha2.State.{State}
 
@@ -83,7 +83,7 @@ H0 = record {
 
 -- 6.2.2, step 1: the message schedule, of which w has the words before Wt
 unfoldable pub Wt : List ℕ → ℕ
-Wt w = let t = length w in σ1 (slice_index w (t - 2)) ⊞ slice_index_or w (t - 7) 0 ⊞ σ0 (slice_index w (t - 15)) ⊞ slice_index_or w (t - 16) 0
+Wt w = let t = length w in σ1 (slice_index w (t - 2)) ⊞ slice_index w (t - 7) ⊞ σ0 (slice_index w (t - 15)) ⊞ slice_index w (t - 16)
 
 unfoldable pub schedule : ℕ → List ℕ → List ℕ
 schedule zero w = w

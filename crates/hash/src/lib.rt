@@ -1,6 +1,6 @@
+//! Hash functions from byte strings to 32 bytes behind one trait: SHA-256, and a plain exclusive or.
 #![tactic(auto)]
 
-// Hash functions from byte strings to 32 bytes behind one trait: SHA-256, and a plain exclusive or.
 ghost use Rattle.std.specs.Prelude.{◌≡◌, ℕ, List};
 ghost use Rattle.hash.specs.Bytes.{Bytes, Digest};
 ghost use Rattle.hash.specs.Fold.{folded};
