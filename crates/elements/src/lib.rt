@@ -14,7 +14,7 @@ fn number_at<F: Field>(part: &[u8], i: usize) -> u16
     requires { i * width F.arithmetic + width F.arithmetic ≤ length part.now }
     ensures { result ≡ element F.arithmetic part.now i }
 {
-    if F::element_width() == 1 {
+    if F::WIDTH == 1 {
         part[i] as u16
     } else {
         256 * part[i * 2] as u16 + part[i * 2 + 1] as u16
@@ -26,7 +26,7 @@ fn put_number<F: Field>(part: &mut [u8], i: usize, value: u16)
     requires { i * width F.arithmetic + width F.arithmetic ≤ length part.old }
     ensures { part.new ≡ put part.old (i * width F.arithmetic) (written (width F.arithmetic) value) }
 {
-    if F::element_width() == 1 {
+    if F::WIDTH == 1 {
         part[i] = (value % 256) as u8;
     } else {
         part[i * 2] = (value / 256) as u8;
@@ -38,11 +38,11 @@ fn put_number<F: Field>(part: &mut [u8], i: usize, value: u16)
 pub fn read_element<F: Field>(part: &[u8], i: usize) -> Option<u16>
     ensures { result ≡ (if nat_lt i (length part.now / width F.arithmetic) && nat_lt (element F.arithmetic part.now i) F.arithmetic.size then Some (element F.arithmetic part.now i) else None) }
 {
-    if i >= part.len() / F::element_width() {
+    if i >= part.len() / F::WIDTH {
         return None;
     }
     let value = number_at::<F>(part, i);
-    if u32::from(value) < F::order() {
+    if u32::from(value) < F::SIZE {
         Some(value)
     } else {
         None
@@ -54,7 +54,7 @@ pub fn write_element<F: Field>(part: &mut [u8], i: usize, value: u16) -> bool
     ensures answer { result ≡ (nat_lt i (length part.old / width F.arithmetic) && nat_lt value F.arithmetic.size) }
     ensures part { part.new ≡ (if result then put part.old (i * width F.arithmetic) (written (width F.arithmetic) value) else part.old) }
 {
-    if i >= part.len() / F::element_width() || u32::from(value) >= F::order() {
+    if i >= part.len() / F::WIDTH || u32::from(value) >= F::SIZE {
         return false;
     }
     put_number::<F>(part, i, value);
@@ -65,8 +65,8 @@ pub fn write_element<F: Field>(part: &mut [u8], i: usize, value: u16) -> bool
 pub fn overrun<F: Field>(part: &[u8]) -> Option<usize>
     ensures { FirstOverrun F.arithmetic part.now (length part.now / width F.arithmetic) result }
 {
-    for i in 0..part.len() / F::element_width() {
-        if u32::from(number_at::<F>(part, i)) >= F::order() {
+    for i in 0..part.len() / F::WIDTH {
+        if u32::from(number_at::<F>(part, i)) >= F::SIZE {
             return Some(i);
         }
     }

@@ -12,19 +12,15 @@ pub trait Field {
     /// The number w of bytes that an element takes on the wire, the high byte first.
     const WIDTH: usize;
 
+    ghost SIZE: { ℕ };
+
+    ghost WIDTH: { ℕ };
+
     // The meaning of size, sum, difference and product.
     ghost arithmetic: { Arithmetic };
 
     // The meaning of the inverse.
     ghost inverted: { ℕ → ℕ };
-
-    /// `SIZE`, in the form that contracts of generic code can cite.
-    fn order() -> u32
-        ensures { result ≡ arithmetic.size };
-
-    /// `WIDTH`, in the form that contracts of generic code can cite.
-    fn element_width() -> usize
-        ensures { result ≡ width arithmetic };
 
     /// a + b.
     fn sum(a: u16, b: u16) -> u16
@@ -41,6 +37,11 @@ pub trait Field {
     /// The code that a is multiplied with to give 1; 0 for 0, which has none.
     fn inverse(a: u16) -> u16
         ensures { result ≡ inverted a };
+
+    // The constants mean what the arithmetic says.
+    ghost size_law: { SIZE ≡ arithmetic.size };
+
+    ghost width_law: { WIDTH ≡ width arithmetic };
 
     // What every field owes.
     ghost laws: { FieldLaws arithmetic inverted };

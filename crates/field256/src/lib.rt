@@ -3,6 +3,7 @@
 
 mod tables;
 
+ghost use Rattle.std.specs.Prelude.{refl};
 ghost use Rattle.field256.specs.Gf256.{arithmetic, inverted};
 ghost use Rattle.field256.specs.Laws;
 
@@ -23,21 +24,19 @@ impl Field for Field256 {
     /// So a code takes one byte.
     const WIDTH: usize = 1;
 
+    ghost SIZE = { 256 };
+
+    ghost WIDTH = { 1 };
+
     ghost arithmetic = { arithmetic };
 
     ghost inverted = { inverted };
 
+    ghost size_law = { refl };
+
+    ghost width_law = { refl };
+
     ghost laws = { Laws.laws };
-
-    /// The number of codes.
-    fn order() -> u32 {
-        Self::SIZE
-    }
-
-    /// The bytes of a code.
-    fn element_width() -> usize {
-        Self::WIDTH
-    }
 
     /// Coefficients are added each by itself, modulo 2.
     fn sum(a: u16, b: u16) -> u16 {

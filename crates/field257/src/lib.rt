@@ -1,7 +1,7 @@
 //! The field of 257 codes: the remainders after division by the prime 257.
 #![tactic(auto)]
 
-ghost use Rattle.std.specs.Prelude.{◌≡◌, ◌<◌};
+ghost use Rattle.std.specs.Prelude.{◌≡◌, ◌<◌, refl};
 ghost use Rattle.field257.specs.Gf257.{arithmetic, inverted, reciprocal};
 ghost use Rattle.field257.specs.Laws;
 
@@ -44,21 +44,19 @@ impl Field for Field257 {
     /// One code is no byte, so each takes two.
     const WIDTH: usize = 2;
 
+    ghost SIZE = { 257 };
+
+    ghost WIDTH = { 2 };
+
     ghost arithmetic = { arithmetic };
 
     ghost inverted = { inverted };
 
+    ghost size_law = { refl };
+
+    ghost width_law = { refl };
+
     ghost laws = { Laws.laws };
-
-    /// The number of codes.
-    fn order() -> u32 {
-        Self::SIZE
-    }
-
-    /// The bytes of a code.
-    fn element_width() -> usize {
-        Self::WIDTH
-    }
 
     /// The sum of two codes fits 16 bits, and its remainder is a code.
     fn sum(a: u16, b: u16) -> u16 {

@@ -64,7 +64,7 @@ impl Basis {
 fn is_admitted<F: Field>(codes: &[u16]) -> bool
     ensures { result ≡ admitted F.arithmetic codes.now }
 {
-    1 <= codes.len() && codes.len() <= MOST && rising(codes, 0, F::order())
+    1 <= codes.len() && codes.len() <= MOST && rising(codes, 0, F::SIZE)
 }
 
 /// Whether the codes rise, the first at least `low` and all below `high`; codes that rise are distinct.

@@ -110,7 +110,7 @@ pub fn check<F: Field>(shape: Shape, frame: Frame) -> Result<(), FieldFault>
     match overrun::<F>(section) {
         None => Ok(()),
         Some(i) => Err(FieldFault {
-            place: 5 + 32 * digest_count(shape, kind) + i * F::element_width(),
+            place: 5 + 32 * digest_count(shape, kind) + i * F::WIDTH,
         }),
     }
 }

@@ -51,8 +51,8 @@ fn field_257_answers_0_beyond_its_codes(rt: HostRuntime) {
 
 #[test]
 fn sizes_and_widths(rt: HostRuntime) {
-    assert_eq!(rt; Field256::order(), 256);
-    assert_eq!(rt; Field256::element_width(), 1);
-    assert_eq!(rt; Field257::order(), 257);
-    assert_eq!(rt; Field257::element_width(), 2);
+    assert_eq!(rt; Field256::SIZE, 256);
+    assert_eq!(rt; Field256::WIDTH, 1);
+    assert_eq!(rt; Field257::SIZE, 257);
+    assert_eq!(rt; Field257::WIDTH, 2);
 }

@@ -54,7 +54,7 @@ impl Shape {
     pub fn fragment_bytes<F: Field>(self) -> usize
         ensures { result ≡ fragment_length (width F.arithmetic) self.rows }
     {
-        self.rows * F::element_width()
+        self.rows * F::WIDTH
     }
 
     /// V, the bytes of a commitment vector.
@@ -75,6 +75,6 @@ impl Shape {
     pub fn share_bytes<F: Field>(self) -> usize
         ensures { result ≡ share_length (width F.arithmetic) self.faults }
     {
-        self.share_rows() * F::element_width()
+        self.share_rows() * F::WIDTH
     }
 }
