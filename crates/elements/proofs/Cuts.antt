@@ -1,5 +1,5 @@
 -- Cuts of a list at a place that may lie past its end.
-use Rattle.std.proofs.Common.{◌≡◌, ℕ, ◌≤◌, min, Bool, true, false, leb, List, length, take, drop, sym, refl, ap, ◌∙◌, le_refl, le_of_lt, arith}
+use Rattle.std.proofs.Common.{◌≡◌, ℕ, min, Bool, true, false, leb, List, length, take, drop, sym, refl, ap, ◌∙◌, le_refl, le_of_lt}
 use native.Mathlib.Nat.{min-eq_left, min-eq_right}
 use Rattle.std.proofs.lemmas.List.{take_all, drop_all}
 use Rattle.std.proofs.lemmas.Bool.{leb-true, leb-false}
@@ -17,13 +17,3 @@ drop_min {X} xs n = by (leb (length xs) n) refl
     by : (b : Bool) → leb (length xs) n ≡ b → drop (min (length xs) n) xs ≡ drop n xs
     by true e = let h = leb-true (length xs) n e in ap (λ m. drop m xs) (min-eq_left h) ∙ drop_all (length xs) xs (le_refl (length xs)) ∙ sym (drop_all n xs h)
     by false e = ap (λ m. drop m xs) (min-eq_right (le_of_lt (leb-false (length xs) n e)))
-
--- A place past a bound that the list does not reach is past its end, as the bound is.
-pub drop_bounded : {X : Type 0} (xs : List X) (n most : ℕ) → length xs ≤ most → drop (min n most) xs ≡ drop n xs
-drop_bounded {X} xs n most short = by (leb n most) refl
-  where
-    by : (b : Bool) → leb n most ≡ b → drop (min n most) xs ≡ drop n xs
-    by true e = ap (λ m. drop m xs) (min-eq_left (leb-true n most e))
-    by false e =
-        let h = leb-false n most e in
-        ap (λ m. drop m xs) (min-eq_right (le_of_lt h)) ∙ drop_all most xs short ∙ sym (drop_all n xs (omega arith))

@@ -1,7 +1,7 @@
 //! Byte strings in pieces of one size: those of a fragment or a share are elements, codes of w bytes each, the high byte first.
 #![tactic(auto)]
 
-ghost use Rattle.std.specs.Prelude.{◌≡◌, ◌+◌, ◌*◌, ◌/◌, ◌<◌, ◌≤◌, ◌&&◌, length, if◌then◌else◌, Some, None, nat_lt};
+ghost use Rattle.std.specs.Prelude.{◌≡◌, ◌+◌, ◌*◌, ◌/◌, ◌<◌, ◌≤◌, ◌&&◌, length, if◌then◌else◌, Some, None, nat_lt, Err, ◌↔◌, OnOk, OnErr};
 ghost use Rattle.field.specs.Laws.{width};
 ghost use Rattle.elements.specs.Pieces.{piece, put};
 ghost use Rattle.elements.specs.Numbers.{written};
@@ -9,28 +9,23 @@ ghost use Rattle.elements.specs.Element.{element, FirstOverrun};
 
 use field::Field;
 
-/// The number that the bytes of element `i` write, whether it is a code or not.
-fn number_at<F: Field>(part: &[u8], i: usize) -> u16
-    requires { i * width F.arithmetic + width F.arithmetic ≤ length part.now }
-    ensures { result ≡ element F.arithmetic part.now i }
-{
-    if F::WIDTH == 1 {
-        part[i] as u16
-    } else {
-        256 * part[i * 2] as u16 + part[i * 2 + 1] as u16
-    }
+/// Why an element is not written.
+#[derive(Clone, Copy, PartialEq, Eq, Debug, Drop)]
+pub enum Unwritten {
+    /// The part has no such element.
+    Outside,
+    /// The value is not a code.
+    Overrun,
 }
 
-/// Writes `value` as element `i`.
-fn put_number<F: Field>(part: &mut [u8], i: usize, value: u16)
-    requires { i * width F.arithmetic + width F.arithmetic ≤ length part.old }
-    ensures { part.new ≡ put part.old (i * width F.arithmetic) (written (width F.arithmetic) value) }
+/// The number that the bytes of element `i` write, whether it is a code or not; bytes that the part does not have count for nothing.
+fn number_at<F: Field>(part: &[u8], i: usize) -> u16
+    ensures { result ≡ element F.arithmetic part.now i }
 {
-    if F::WIDTH == 1 {
-        part[i] = (value % 256) as u8;
-    } else {
-        part[i * 2] = (value / 256) as u8;
-        part[i * 2 + 1] = (value % 256) as u8;
+    match piece_at(part, F::WIDTH, i) {
+        [byte] => u16::from(*byte),
+        [high, low] => u16::from_be_bytes([*high, *low]),
+        _ => 0,
     }
 }
 
@@ -38,45 +33,39 @@ fn put_number<F: Field>(part: &mut [u8], i: usize, value: u16)
 pub fn read_element<F: Field>(part: &[u8], i: usize) -> Option<u16>
     ensures { result ≡ (if nat_lt i (length part.now / width F.arithmetic) && nat_lt (element F.arithmetic part.now i) F.arithmetic.size then Some (element F.arithmetic part.now i) else None) }
 {
-    if i >= part.len() / F::WIDTH {
-        return None;
-    }
     let value = number_at::<F>(part, i);
-    if u32::from(value) < F::SIZE {
-        Some(value)
-    } else {
-        None
-    }
+    (i < part.len() / F::WIDTH && u32::from(value) < F::SIZE).then_some(value)
 }
 
-/// Writes `value` as element `i` of a part; false, and the part left as found, where the part has no such element or `value` is not a code.
-pub fn write_element<F: Field>(part: &mut [u8], i: usize, value: u16) -> bool
-    ensures answer { result ≡ (nat_lt i (length part.old / width F.arithmetic) && nat_lt value F.arithmetic.size) }
-    ensures part { part.new ≡ (if result then put part.old (i * width F.arithmetic) (written (width F.arithmetic) value) else part.old) }
+/// Writes `value` as element `i` of a part, and leaves the part as found where it cannot.
+pub fn write_element<F: Field>(part: &mut [u8], i: usize, value: u16) -> Result<(), Unwritten>
+    ensures outside { result ≡ Err Unwritten.Outside ↔ (length part.old / width F.arithmetic ≤ i) }
+    ensures overrun { result ≡ Err Unwritten.Overrun ↔ ((i < length part.old / width F.arithmetic) × (F.arithmetic.size ≤ value)) }
+    ensures written { OnOk result (part.new ≡ put part.old (i * width F.arithmetic) (written (width F.arithmetic) value)) }
+    ensures as_found { OnErr result (part.new ≡ part.old) }
 {
-    if i >= part.len() / F::WIDTH || u32::from(value) >= F::SIZE {
-        return false;
+    if i >= part.len() / F::WIDTH {
+        return Err(Unwritten::Outside);
     }
-    put_number::<F>(part, i, value);
-    true
+    if u32::from(value) >= F::SIZE {
+        return Err(Unwritten::Overrun);
+    }
+    let from = i * F::WIDTH;
+    part[from..from + F::WIDTH].copy_from_slice(&value.to_be_bytes()[2 - F::WIDTH..]);
+    Ok(())
 }
 
 /// The first element of a part whose number is not a code, or none where all are codes.
 pub fn overrun<F: Field>(part: &[u8]) -> Option<usize>
     ensures { FirstOverrun F.arithmetic part.now (length part.now / width F.arithmetic) result }
 {
-    for i in 0..part.len() / F::WIDTH {
-        if u32::from(number_at::<F>(part, i)) >= F::SIZE {
-            return Some(i);
-        }
-    }
-    None
+    (0..part.len() / F::WIDTH).find(|i| u32::from(number_at::<F>(part, *i)) >= F::SIZE)
 }
 
 /// Piece `i` of a byte string in pieces of `size` bytes: one that the string's end cuts is shorter, and one past it empty.
 pub fn piece_at(bytes: &[u8], size: usize, i: usize) -> &[u8]
     ensures { result.now ≡ piece size bytes.now i }
 {
-    let rest = &bytes[bytes.len().min(i.saturating_mul(size))..];
-    &rest[0..rest.len().min(size)]
+    let rest = bytes.get(i.saturating_mul(size)..).unwrap_or(&[]);
+    rest.get(..size).unwrap_or(rest)
 }

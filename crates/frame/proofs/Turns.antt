@@ -85,9 +85,9 @@ number-numbered n k h = one (eqb n 1) refl h
 
 -- There are few digests.
 digests_few : (s : Shape) (k : Kind) → digests s k ≤ 16
-digests_few s Send = omega (arith, s.range.1)
-digests_few s Echo = omega (arith, s.range.1)
-digests_few s Ready = omega (arith, s.range.1)
+digests_few s Send = omega (arith, s.faults_most)
+digests_few s Echo = omega (arith, s.faults_most)
+digests_few s Ready = omega (arith, s.faults_most)
 digests_few s Hash = omega arith
 digests_few s Symbol = omega arith
 

@@ -2,7 +2,7 @@
 use coding::{
     Undecodable, commit, decode, digest_of, encode_fragment, encode_fragments, encode_share,
 };
-use elements::{overrun, read_element, write_element};
+use elements::{Unwritten, overrun, read_element, write_element};
 use field::Field;
 use field256::Field256;
 use field257::Field257;
@@ -210,11 +210,9 @@ fn elements(rt: HostRuntime) {
     assert_eq!(rt; overrun::<Field257>(&[0, 8, 1, 0, 1, 1]), Some(2));
     assert_eq!(rt; overrun::<Field256>(&[0, 8, 1, 255]), None);
     let mut part = [9; 5];
-    assert!(rt;
-        write_element::<Field257>(&mut part, 1, 256)
-            && !write_element::<Field257>(&mut part, 2, 1)
-            && !write_element::<Field257>(&mut part, 0, 257)
-    );
+    assert_eq!(rt; write_element::<Field257>(&mut part, 1, 256), Ok(()));
+    assert_eq!(rt; write_element::<Field257>(&mut part, 2, 1), Err(Unwritten::Outside));
+    assert_eq!(rt; write_element::<Field257>(&mut part, 0, 257), Err(Unwritten::Overrun));
     assert_eq!(rt; part, [9, 9, 1, 0, 9]);
 }
 

@@ -8,13 +8,16 @@ ghost use Rattle.shape.specs.Lengths.{in_range, board_count, row_length, block_l
 use field::Field;
 
 /// t, how many faulty boards are tolerated, and R, how many rows a block has; within their ranges wherever there is a value of this type.
-#[derive(Clone, Copy)]
+#[derive(Clone, Copy, PartialEq, Eq, Debug)]
 pub struct Shape {
     /// t, 1 to 5.
     pub faults: usize,
     /// R, 1 to 512.
     pub rows: usize,
-    ghost range: { (1 ≤ faults) × (faults ≤ 5) × (1 ≤ rows) × (rows ≤ 512) },
+    ghost faults_least: { 1 ≤ faults },
+    ghost faults_most: { faults ≤ 5 },
+    ghost rows_least: { 1 ≤ rows },
+    ghost rows_most: { rows ≤ 512 },
 }
 
 impl Shape {
@@ -22,7 +25,7 @@ impl Shape {
     pub fn new(faults: usize, rows: usize) -> Option<Shape>
         ensures { MatchOption result (in_range faults rows ≡ false) (λ s. (s.faults ≡ faults) × (s.rows ≡ rows)) }
     {
-        if 1 <= faults && faults <= 5 && 1 <= rows && rows <= 512 {
+        if (1..=5).contains(&faults) && (1..=512).contains(&rows) {
             Some(Shape { faults, rows })
         } else {
             None

@@ -26,6 +26,6 @@ returns-in-None g c =
 
 pub returns-in-Some : goal.returns-in-Some
 returns-in-Some g c =
-    ap₂ (λ d w. Err (record { place = 5 + 32 * d + c.in-Some.i * w })) c.digest_count.ensures.is g.met.F.Field.width_law
+    ap₂ (λ d w. Err (record { place = 5 + 32 * d + c.in-Some.i * w })) c.digest_count.ensures.is (c.WIDTH.ensures ∙ g.met.F.Field.width_law)
     ∙ looked g.F.Field.arithmetic c.args.shape (message c.args.frame) c.kind-kind.result c.payload.result.now c.piece_at-section.result.now c.payload_bytes.result (Some c.in-Some.i)
     c.kind-kind.ensures c.payload.ensures c.payload_bytes.ensures.is c.piece_at-section.ensures c.in-Some.ensures

@@ -10,7 +10,7 @@ returns g c =
     let t = c.args._shape.faults in
     let r = c.args._shape.rows in
     let lawful : (f : ℕ) → Laws (setting g.F.Field.arithmetic g.F.Field.inverted g.D.Hash.hashes t r f) =
-    λ f. laws g.F.Field.arithmetic g.F.Field.inverted g.D.Hash.hashes g.met.F.Field.laws g.met.D.Hash.sound t r f c.args._shape.range.1 in
+    λ f. laws g.F.Field.arithmetic g.F.Field.inverted g.D.Hash.hashes g.met.F.Field.laws g.met.D.Hash.sound t r f c.args._shape.faults_most in
     record {
       laws = lawful;
       promises = λ f. kept (setting g.F.Field.arithmetic g.F.Field.inverted g.D.Hash.hashes t r f) (lawful f);

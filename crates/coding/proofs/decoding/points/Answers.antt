@@ -32,7 +32,7 @@ loop-k-preserved g c =
     let many = chosen_many s c.args.boards.now c.requires.fits.1.0 in (
       length-set c.loop-k.points k (get_or c.args.boards.now k 0, c.value_in.result) ∙ c.loop-k.invariant.0,
       points_more R s c.args.fragments.now c.args.boards.now c.args.i k c.value_in.result c.loop-k.points c.loop-k-test.true
-          (omega (arith, c.loop-k.invariant.0, many, s.range.1)) c.loop-k.invariant.1 (c.value_in.ensures ∙ ap (λ x. element R x c.args.i) c.held_by.ensures),
+          (omega (arith, c.loop-k.invariant.0, many, s.faults_most)) c.loop-k.invariant.1 (c.value_in.ensures ∙ ap (λ x. element R x c.args.i) c.held_by.ensures),
     )
 
 pub returns : goal.returns

@@ -13,10 +13,10 @@ encode_rows-requires g c =
     let R = g.F.Field.arithmetic in
     let f = fitting R s c.args.block.now c.args.board c.args.part.now c.requires in
     let k = ap (λ n. s.rows * n) c.row_bytes.ensures in (record {
-      sizes = (omega (arith, c.row_bytes.ensures, s.range.1), omega (arith, s.range.3), f.part_long);
+      sizes = (omega (arith, c.row_bytes.ensures, s.faults_most), omega (arith, s.rows_most), f.part_long);
       source = (
         (λ i h. omega (arith, piece_end i s.rows c.row_bytes.result h, k, f.block_long)),
-        (omega (arith, k, f.block_long), omega (arith, f.most, s.range.1, g.met.F.Field.laws.ring.least)),
+        (omega (arith, k, f.block_long), omega (arith, f.most, s.faults_most, g.met.F.Field.laws.ring.least)),
       );
     })
 

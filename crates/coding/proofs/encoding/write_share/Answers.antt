@@ -14,13 +14,13 @@ encode_rows-requires g c =
     let f = fitting-share R s c.args.vector.now c.args.board c.args.part.now c.requires in
     let k = c.row_bytes.ensures in
     let q = c.share_rows.ensures in
-    let few = share_rows_few s.faults s.range.0 s.range.1 in
+    let few = share_rows_few s.faults s.faults_least s.faults_most in
     let enough = share_rows_enough s.faults in
     let product = ap (λ n. n * c.row_bytes.result) q ∙ ap (λ n. share_rows s.faults * n) k in (record {
-      sizes = (omega (arith, k, s.range.1), omega (arith, q, few), f.part_long ∙ ap (λ n. n * width R) (sym q));
+      sizes = (omega (arith, k, s.faults_most), omega (arith, q, few), f.part_long ∙ ap (λ n. n * width R) (sym q));
       source = (
         (λ i h. subst (λ n. i * n ≤ length c.args.vector.now) (sym k) (omega (arith, share-row-starts s.faults i (omega (arith, q, h)), f.vector_long))),
-        (omega (arith, product, enough, f.vector_long), omega (arith, f.most, s.range.1, g.met.F.Field.laws.ring.least)),
+        (omega (arith, product, enough, f.vector_long), omega (arith, f.most, s.faults_most, g.met.F.Field.laws.ring.least)),
       );
     })
 
