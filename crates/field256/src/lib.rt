@@ -51,7 +51,7 @@ impl Field for Field256 {
     /// The power of the sum of the logarithms; that of the code 0 is so large that the power is then 0.
     fn product(a: u16, b: u16) -> u16 {
         if a < ORDER && b < ORDER {
-            power_of_three(logarithm(a) + logarithm(b)) as u16
+            u16::from(power_of_three(logarithm(a) + logarithm(b)))
         } else {
             0
         }
@@ -59,6 +59,10 @@ impl Field for Field256 {
 
     /// The inverse is read from its table.
     fn inverse(a: u16) -> u16 {
-        if a < ORDER { inverse_of(a) as u16 } else { 0 }
+        if a < ORDER {
+            u16::from(inverse_of(a))
+        } else {
+            0
+        }
     }
 }

@@ -71,7 +71,7 @@ pub(super) fn power_of_three(k: u16) -> u8
     requires { k < 1021 }
     ensures { PowerEntry k result }
 {
-    POWERS[k as usize]
+    POWERS[usize::from(k)]
 }
 
 /// The logarithm of a code to the base 3, or 510 for the code 0.
@@ -79,7 +79,7 @@ pub(super) fn logarithm(a: u16) -> u16
     requires { a < 256 }
     ensures { LogarithmEntry a result }
 {
-    LOGARITHMS[a as usize]
+    LOGARITHMS[usize::from(a)]
 }
 
 /// The inverse of a code, or 0 for the code 0.
@@ -87,5 +87,5 @@ pub(super) fn inverse_of(a: u16) -> u8
     requires { a < 256 }
     ensures { result ≡ squares 7 a }
 {
-    INVERSES[a as usize]
+    INVERSES[usize::from(a)]
 }

@@ -27,7 +27,7 @@ fn inverse_of(a: u16) -> u16
     ensures { result ≡ reciprocal a }
 {
     if a < PRIME - 1 {
-        INVERSES[a as usize] as u16
+        u16::from(INVERSES[usize::from(a)])
     } else {
         a
     }
@@ -79,7 +79,7 @@ impl Field for Field257 {
     /// The product of two codes can pass 16 bits, so it is taken in 32.
     fn product(a: u16, b: u16) -> u16 {
         if a < PRIME && b < PRIME {
-            (a as u32 * b as u32 % PRIME as u32) as u16
+            (u32::from(a) * u32::from(b) % u32::from(PRIME)) as u16
         } else {
             0
         }

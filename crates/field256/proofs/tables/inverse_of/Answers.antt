@@ -5,4 +5,4 @@ use Rattle.field256.proofs.tables.inverse_of.Goals as goal
 
 pub returns : goal.returns
 unfolding squares product times reduced
-returns c = read (squares 7) 256 c.args.a c.requires
+returns c = rw c.from.ensures (read (squares 7) 256 c.args.a c.requires)

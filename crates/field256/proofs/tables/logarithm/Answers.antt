@@ -8,4 +8,4 @@ use Rattle.field256.proofs.tables.logarithm.Goals as goal
 
 pub returns : goal.returns
 unfolding product times reduced
-returns c = subst⁻¹ (LogarithmEntry c.args.a) (read logarithm 256 c.args.a c.requires) (logarithm-entry c.args.a c.requires)
+returns c = rw c.from.ensures (subst⁻¹ (LogarithmEntry c.args.a) (read logarithm 256 c.args.a c.requires) (logarithm-entry c.args.a c.requires))

@@ -5,4 +5,4 @@ use Rattle.field256.proofs.tables.power_of_three.Goals as goal
 
 pub returns : goal.returns
 unfolding product times reduced
-returns c = power-entry c.args.k c.requires
+returns c = rw c.from.ensures (power-entry c.args.k c.requires)
