@@ -10,16 +10,13 @@ ghost use Rattle.field256.specs.Laws;
 use field::Field;
 use tables::{inverse_of, logarithm, power_of_three};
 
-/// The number of codes.
-const ORDER: u16 = 256;
-
 /// The field whose codes are the bytes, each the polynomial of which its bits are the coefficients.
 pub struct Field256;
 
 /// The operations of polynomials, by tables.
 impl Field for Field256 {
     /// Every byte is a code.
-    const SIZE: u32 = ORDER as u32;
+    const SIZE: u32 = 256;
 
     /// So a code takes one byte.
     const WIDTH: usize = 1;
@@ -40,7 +37,10 @@ impl Field for Field256 {
 
     /// Coefficients are added each by itself, modulo 2.
     fn sum(a: u16, b: u16) -> u16 {
-        if a < ORDER && b < ORDER { a ^ b } else { 0 }
+        match (u8::try_from(a), u8::try_from(b)) {
+            (Ok(a), Ok(b)) => u16::from(a ^ b),
+            _ => 0,
+        }
     }
 
     /// Every element is its own negative, so a difference is a sum.
@@ -50,19 +50,14 @@ impl Field for Field256 {
 
     /// The power of the sum of the logarithms; that of the code 0 is so large that the power is then 0.
     fn product(a: u16, b: u16) -> u16 {
-        if a < ORDER && b < ORDER {
-            u16::from(power_of_three(logarithm(a) + logarithm(b)))
-        } else {
-            0
+        match (u8::try_from(a), u8::try_from(b)) {
+            (Ok(a), Ok(b)) => u16::from(power_of_three(logarithm(a) + logarithm(b))),
+            _ => 0,
         }
     }
 
     /// The inverse is read from its table.
     fn inverse(a: u16) -> u16 {
-        if a < ORDER {
-            u16::from(inverse_of(a))
-        } else {
-            0
-        }
+        u8::try_from(a).map_or(0, |a| u16::from(inverse_of(a)))
     }
 }

@@ -75,16 +75,14 @@ pub(super) fn power_of_three(k: u16) -> u8
 }
 
 /// The logarithm of a code to the base 3, or 510 for the code 0.
-pub(super) fn logarithm(a: u16) -> u16
-    requires { a < 256 }
+pub(super) fn logarithm(a: u8) -> u16
     ensures { LogarithmEntry a result }
 {
     LOGARITHMS[usize::from(a)]
 }
 
 /// The inverse of a code, or 0 for the code 0.
-pub(super) fn inverse_of(a: u16) -> u8
-    requires { a < 256 }
+pub(super) fn inverse_of(a: u8) -> u8
     ensures { result ≡ squares 7 a }
 {
     INVERSES[usize::from(a)]

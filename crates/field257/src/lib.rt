@@ -1,7 +1,7 @@
 //! The field of 257 codes: the remainders after division by the prime 257.
 #![tactic(auto)]
 
-ghost use Rattle.std.specs.Prelude.{◌≡◌, ◌<◌, refl};
+ghost use Rattle.std.specs.Prelude.{◌≡◌, ◌<◌, ◌≤◌, ◌⊎◌, refl};
 ghost use Rattle.field257.specs.Gf257.{arithmetic, inverted, reciprocal};
 ghost use Rattle.field257.specs.Laws;
 
@@ -33,6 +33,19 @@ fn inverse_of(a: u16) -> u16
     }
 }
 
+/// The operation's answer to two codes, and 0 to anything else.
+fn on_codes<O: FnOnce(u16, u16) -> u16 + Drop>(a: u16, b: u16, operation: O) -> u16
+    requires callable { a < 257 → b < 257 → O.pre operation a b }
+    ensures codes { a < 257 → b < 257 → O.post operation a b result }
+    ensures others { (257 ≤ a) ⊎ (257 ≤ b) → result ≡ 0 }
+{
+    if a < PRIME && b < PRIME {
+        operation(a, b)
+    } else {
+        0
+    }
+}
+
 /// The field whose codes are the remainders; the largest of them, 256, is no byte.
 pub struct Field257;
 
@@ -60,29 +73,21 @@ impl Field for Field257 {
 
     /// The sum of two codes fits 16 bits, and its remainder is a code.
     fn sum(a: u16, b: u16) -> u16 {
-        if a < PRIME && b < PRIME {
-            (a + b) % PRIME
-        } else {
-            0
-        }
+        on_codes(a, b, |a, b| (a + b) % PRIME)
     }
 
     /// The prime is added first, so that nothing falls below 0.
     fn difference(a: u16, b: u16) -> u16 {
-        if a < PRIME && b < PRIME {
-            (a + PRIME - b) % PRIME
-        } else {
-            0
-        }
+        on_codes(a, b, |a, b| (a + PRIME - b) % PRIME)
     }
 
     /// The product of two codes can pass 16 bits, so it is taken in 32.
     fn product(a: u16, b: u16) -> u16 {
-        if a < PRIME && b < PRIME {
-            (u32::from(a) * u32::from(b) % u32::from(PRIME)) as u16
-        } else {
-            0
-        }
+        on_codes(
+            a,
+            b,
+            |a, b| (u32::from(a) * u32::from(b) % u32::from(PRIME)) as u16,
+        )
     }
 
     /// The inverse is read from its table.

@@ -211,8 +211,14 @@ fn elements(rt: HostRuntime) {
     assert_eq!(rt; overrun::<Field256>(&[0, 8, 1, 255]), None);
     let mut part = [9; 5];
     assert_eq!(rt; write_element::<Field257>(&mut part, 1, 256), Ok(()));
-    assert_eq!(rt; write_element::<Field257>(&mut part, 2, 1), Err(Unwritten::Outside));
-    assert_eq!(rt; write_element::<Field257>(&mut part, 0, 257), Err(Unwritten::Overrun));
+    assert_eq!(rt;
+        write_element::<Field257>(&mut part, 2, 1),
+        Err(Unwritten::Outside)
+    );
+    assert_eq!(rt;
+        write_element::<Field257>(&mut part, 0, 257),
+        Err(Unwritten::Overrun)
+    );
     assert_eq!(rt; part, [9, 9, 1, 0, 9]);
 }
 

@@ -1,4 +1,5 @@
 -- The table is computed by a search among the powers, and has the logarithm that is found so.
+use Rattle.std.proofs.Common.{arith}
 use mathlib.Core.Path.{subst⁻¹}
 use Rattle.field256.specs.Gf256.{times, reduced, product}
 use Rattle.field256.specs.Logarithms.{LogarithmEntry}
@@ -8,4 +9,4 @@ use Rattle.field256.proofs.tables.logarithm.Goals as goal
 
 pub returns : goal.returns
 unfolding product times reduced
-returns c = rw c.from.ensures (subst⁻¹ (LogarithmEntry c.args.a) (read logarithm 256 c.args.a c.requires) (logarithm-entry c.args.a c.requires))
+returns c = rw c.from.ensures (subst⁻¹ (LogarithmEntry c.args.a) (read logarithm 256 c.args.a (omega arith)) (logarithm-entry c.args.a (omega arith)))
