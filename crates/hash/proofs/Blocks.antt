@@ -1,8 +1,9 @@
 -- The blocks of a message, and what a tail changes. Assumes nothing.
-use Rattle.std.proofs.Common.{◌≡◌, ℕ, zero, suc, ◌+◌, ◌*◌, ◌/◌, ◌<◌, ◌≤◌, List, [], ◌++◌, length, get_or, take, drop, sym, refl, ap, ◌∙◌, le_of_suc-le-suc, not-suc-le-zero, mul-zero, mul-suc, arith}
+use Rattle.std.proofs.Common.{◌≡◌, ℕ, w32, zero, suc, ◌+◌, ◌*◌, ◌/◌, ◌<◌, ◌≤◌, List, [], ◌++◌, length, get_or, take, drop, sym, refl, ap, ◌∙◌, le_of_suc-le-suc, not-suc-le-zero, mul-zero, mul-suc, add-zero, slice_index, arith}
+use Rattle.std.specs.Int.{from_be_bytes}
 use Rattle.std.specs.Simd.{first_chunks}
-use Rattle.std.proofs.lemmas.List.{append_assoc, drop-drop, drop-append-le, take-append-le, take_all, drop_all, length-drop, length-append}
-use Rattle.hash.specs.Sha256.{hashed, compress, block}
+use Rattle.std.proofs.lemmas.List.{append_assoc, get_or-take, get_or-drop, drop-drop, drop-append-le, take-append-le, take_all, drop_all, length-drop, length-append}
+use Rattle.hash.specs.Sha256.{hashed, compress, block, word}
 use Rattle.hash.proofs.Steps.{hashed-more}
 
 -- element i of the k pieces of n that a list is cut into
@@ -17,6 +18,14 @@ pub chunk_at :
     (n i : ℕ) (m : List ℕ) (pieces : List (List ℕ)) → pieces ≡ first_chunks n (length m / n) m → i < length m / n
     → get_or pieces i [] ≡ take n (drop (n * i) m)
 chunk_at n i m pieces cut within = ap (λ v. get_or v i []) cut ∙ chunked_at n (length m / n) i m [] within
+
+-- a word of a block, which stands in four bytes of it
+pub word_of : (i : ℕ) (m bs : List ℕ) → bs ≡ take 4 (drop i m) → from_be_bytes w32 bs ≡ word m i
+word_of i m bs is =
+    let at : (k : ℕ) → k < 4 → slice_index bs k ≡ slice_index m (i + k) =
+    λ k h. ap (λ v. get_or v k 0) is ∙ get_or-take 4 (drop i m) k 0 h ∙ get_or-drop i m k 0 in
+    let first : slice_index bs 0 ≡ slice_index m i = at 0 (omega arith) ∙ ap (slice_index m) (add-zero i) in
+    omega (arith, at 1 (omega arith), at 2 (omega arith), at 3 (omega arith))
 
 -- a whole block does not see a tail
 block_front : (i : ℕ) (m t : List ℕ) → 64 * (i + 1) ≤ length m → block (m ++ t) i ≡ block m i

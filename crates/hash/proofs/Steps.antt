@@ -1,10 +1,18 @@
 -- The recursions of `Sha256`, one step at a time. Assumes nothing.
-use Rattle.std.proofs.Common.{◌≡◌, ℕ, zero, suc, ◌+◌, ◌-◌, ◌*◌, ◌<◌, ◌≤◌, ◌≢◌, List, [], ◌∷◌, ◌++◌, length, get_or, take, set, sym, refl, ap, ◌∙◌, add-one, arith, get_or-set_other}
+use Rattle.std.proofs.Common.{◌≡◌, ℕ, w32, bit_or, ◌/◌, ◌%◌, ◌^◌, zero, suc, ◌+◌, ◌-◌, ◌*◌, ◌<◌, ◌≤◌, ◌≢◌, List, [], ◌∷◌, ◌++◌, length, get_or, take, set, sym, refl, ap, ◌∙◌, add-one, arith, get_or-set_other}
 use Rattle.std.specs.List.{flat_map}
+use Rattle.std.specs.Int.{rotate_right}
 use Rattle.std.proofs.lemmas.List.{length-take-le, get_or-take, take_more, take_more_set, flat_map_more}
 use Rattle.hash.specs.declared.sha2.State.{State}
 use Rattle.hash.specs.Schedule.{Reached}
-use Rattle.hash.specs.Sha256.{K, round, rounds, schedule, Wt, σ0, σ1, ◌⊞◌, hashed, compress, block, bytes}
+use Rattle.hash.specs.Sha256.{IsTurn, ROTR, K, round, rounds, schedule, Wt, σ0, σ1, ◌⊞◌, hashed, compress, block, bytes}
+
+-- std's rotation, as the standard has it
+pub turned : (n x : ℕ) → IsTurn n → rotate_right w32 x n ≡ ROTR n x
+turned n x h =
+    let down : n % 32 ≡ n = omega arith in
+    let up : (32 - n % 32) % 32 ≡ 32 - n = omega arith in
+    ap (λ k. bit_or (x / 2 ^ k) ((x * 2 ^ ((32 - n % 32) % 32)) % 2 ^ 32)) down ∙ ap (λ k. bit_or (x / 2 ^ n) ((x * 2 ^ k) % 2 ^ 32)) up
 
 -- one round more
 pub rounds-more : (t : ℕ) (s : State) (w : List ℕ) → rounds (t + 1) s w ≡ round (rounds t s w) (get_or K t 0) (get_or w t 0)

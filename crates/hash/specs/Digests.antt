@@ -22,12 +22,10 @@ words-bytes (x ∷ xs) = All-append (λ b. b < 256) (bytes x) (flat_map bytes xs
 
 -- the bytes of a hash value
 state_digest : (s : State) → Digest (state_bytes s)
-unfolding state_bytes
 state_digest s = (refl, words-bytes (s.a ∷ s.b ∷ s.c ∷ s.d ∷ s.e ∷ s.f ∷ s.g ∷ s.h ∷ []))
 
 -- SHA-256 gives a digest, of any list
 pub sha256_digest : (m : List ℕ) → Digest (sha256 m)
-unfolding sha256
 sha256_digest m = state_digest (hashed (length (padded m) / 64) (padded m))
 
 -- the fold gives one of every byte string

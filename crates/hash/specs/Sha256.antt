@@ -1,5 +1,5 @@
 -- SHA-256 as FIPS 180-4 has it, over byte strings; a number in a comment is that standard's section. Assumes nothing.
-use Rattle.std.specs.Prelude.{ℕ, zero, suc, ◌+◌, ◌-◌, ◌*◌, ◌/◌, ◌%◌, ◌^◌, List, [], ◌∷◌, ◌++◌, map, length, take, drop, replicate, bit_and, bit_or, bit_xor, slice_index}
+use Rattle.std.specs.Prelude.{ℕ, zero, suc, ◌+◌, ◌-◌, ◌*◌, ◌/◌, ◌%◌, ◌^◌, ◌<◌, List, [], ◌∷◌, ◌++◌, map, length, take, drop, replicate, bit_and, bit_or, bit_xor, slice_index}
 use Rattle.std.specs.List.{range_with_len, flat_map}
 use Rattle.hash.specs.declared.sha2.State.{State}
 
@@ -17,24 +17,34 @@ SHR n x = x / 2 ^ n
 abbrev pub ROTR : ℕ → ℕ → ℕ
 ROTR n x = bit_or (x / 2 ^ n) ((x * 2 ^ (32 - n)) % 2 ^ 32)
 
+-- by how many bits the functions below rotate
+abbrev pub IsTurn : ℕ → Type 0
+IsTurn n = (0 < n) × (n < 32)
+
 -- 4.1.2: the functions
-unfoldable pub Ch : ℕ → ℕ → ℕ → ℕ
+abbrev pub Ch : ℕ → ℕ → ℕ → ℕ
 Ch x y z = bit_xor (bit_and x y) (bit_and (NOT x) z)
 
-unfoldable pub Maj : ℕ → ℕ → ℕ → ℕ
+abbrev pub Maj : ℕ → ℕ → ℕ → ℕ
 Maj x y z = bit_xor (bit_xor (bit_and x y) (bit_and x z)) (bit_and y z)
 
-unfoldable pub Σ0 : ℕ → ℕ
-Σ0 x = bit_xor (bit_xor (ROTR 2 x) (ROTR 13 x)) (ROTR 22 x)
+abbrev pub Σ : ℕ → ℕ → ℕ → ℕ → ℕ
+Σ i j k x = bit_xor (bit_xor (ROTR i x) (ROTR j x)) (ROTR k x)
 
-unfoldable pub Σ1 : ℕ → ℕ
-Σ1 x = bit_xor (bit_xor (ROTR 6 x) (ROTR 11 x)) (ROTR 25 x)
+abbrev pub Σ0 : ℕ → ℕ
+Σ0 = Σ 2 13 22
 
-unfoldable pub σ0 : ℕ → ℕ
-σ0 x = bit_xor (bit_xor (ROTR 7 x) (ROTR 18 x)) (SHR 3 x)
+abbrev pub Σ1 : ℕ → ℕ
+Σ1 = Σ 6 11 25
 
-unfoldable pub σ1 : ℕ → ℕ
-σ1 x = bit_xor (bit_xor (ROTR 17 x) (ROTR 19 x)) (SHR 10 x)
+abbrev pub σ : ℕ → ℕ → ℕ → ℕ → ℕ
+σ i j k x = bit_xor (bit_xor (ROTR i x) (ROTR j x)) (SHR k x)
+
+abbrev pub σ0 : ℕ → ℕ
+σ0 = σ 7 18 3
+
+abbrev pub σ1 : ℕ → ℕ
+σ1 = σ 17 19 10
 
 -- 4.2.2: the constants
 unfoldable pub K : List ℕ
@@ -90,10 +100,10 @@ schedule zero w = w
 schedule (suc n) w = schedule n w ++ (Wt (schedule n w) ∷ [])
 
 -- step 3: one round, and the first n
-unfoldable pub T1 : State → ℕ → ℕ → ℕ
+abbrev pub T1 : State → ℕ → ℕ → ℕ
 T1 s k w = s.h ⊞ Σ1 s.e ⊞ Ch s.e s.f s.g ⊞ k ⊞ w
 
-unfoldable pub T2 : State → ℕ
+abbrev pub T2 : State → ℕ
 T2 s = Σ0 s.a ⊞ Maj s.a s.b s.c
 
 unfoldable pub round : State → ℕ → ℕ → State
@@ -113,7 +123,7 @@ rounds zero s w = s
 rounds (suc t) s w = round (rounds t s w) (slice_index K t) (slice_index w t)
 
 -- step 4: the next hash value
-unfoldable pub sums : State → State → State
+abbrev pub sums : State → State → State
 sums s t = record {
   a = s.a ⊞ t.a;
   b = s.b ⊞ t.b;
@@ -139,8 +149,8 @@ hashed (suc i) m = compress (hashed i m) (block m i)
 abbrev pub bytes : ℕ → List ℕ
 bytes x = (x / 2 ^ 24 % 256) ∷ (x / 2 ^ 16 % 256) ∷ (x / 2 ^ 8 % 256) ∷ (x % 256) ∷ []
 
-unfoldable pub state_bytes : State → List ℕ
+abbrev pub state_bytes : State → List ℕ
 state_bytes s = flat_map bytes (s.a ∷ s.b ∷ s.c ∷ s.d ∷ s.e ∷ s.f ∷ s.g ∷ s.h ∷ [])
 
-unfoldable pub sha256 : List ℕ → List ℕ
+abbrev pub sha256 : List ℕ → List ℕ
 sha256 m = state_bytes (hashed (length (padded m) / 64) (padded m))
