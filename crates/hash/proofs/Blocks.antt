@@ -4,7 +4,7 @@ use Rattle.std.specs.Int.{from_be_bytes}
 use Rattle.std.specs.Simd.{first_chunks}
 use Rattle.std.proofs.lemmas.List.{append_assoc, get_or-take, get_or-drop, drop-drop, drop-append-le, take-append-le, take_all, drop_all, length-drop, length-append}
 use Rattle.hash.specs.Sha256.{hashed, compress, block, word}
-use Rattle.hash.proofs.Steps.{hashed-more}
+use Rattle.hash.proofs.Steps.{hashed_more}
 
 -- element i of the k pieces of n that a list is cut into
 chunked_at : (n k i : ℕ) (xs d : List ℕ) → i < k → get_or (first_chunks n k xs) i d ≡ take n (drop (n * i) xs)
@@ -18,6 +18,12 @@ pub chunk_at :
     (n i : ℕ) (m : List ℕ) (pieces : List (List ℕ)) → pieces ≡ first_chunks n (length m / n) m → i < length m / n
     → get_or pieces i [] ≡ take n (drop (n * i) m)
 chunk_at n i m pieces cut within = ap (λ v. get_or v i []) cut ∙ chunked_at n (length m / n) i m [] within
+
+-- the hash value after one more of the whole blocks
+pub hashed_next :
+    (m : List ℕ) (i : ℕ) (pieces : List (List ℕ)) → pieces ≡ first_chunks 64 (length m / 64) m → i < length m / 64
+    → compress (hashed i m) (get_or pieces i []) ≡ hashed (i + 1) m
+hashed_next m i pieces cut within = ap (compress (hashed i m)) (chunk_at 64 i m pieces cut within) ∙ sym (hashed_more i m)
 
 -- a word of a block, which stands in four bytes of it
 pub word_of : (i : ℕ) (m bs : List ℕ) → bs ≡ take 4 (drop i m) → from_be_bytes w32 bs ≡ word m i
@@ -49,7 +55,7 @@ hashed_tail n m t low full =
     let whole : length (drop (64 * n) m ++ t) ≤ 64 = simp (length-append, length-drop) (omega arith) in
     let last : block (m ++ t) n ≡ drop (64 * n) m ++ t =
     ap (take 64) (drop-append-le (64 * n) m t low) ∙ take_all 64 (drop (64 * n) m ++ t) whole in
-    hashed-more n (m ++ t) ∙ ap (λ s. compress s (block (m ++ t) n)) (hashed_front n m t low) ∙ ap (compress (hashed n m)) last
+    hashed_more n (m ++ t) ∙ ap (λ s. compress s (block (m ++ t) n)) (hashed_front n m t low) ∙ ap (compress (hashed n m)) last
 
 -- a tail that fills a block up, and a block more
 pub hashed_tails :

@@ -15,26 +15,26 @@ turned n x h =
     ap (λ k. bit_or (x / 2 ^ k) ((x * 2 ^ ((32 - n % 32) % 32)) % 2 ^ 32)) down ∙ ap (λ k. bit_or (x / 2 ^ n) ((x * 2 ^ k) % 2 ^ 32)) up
 
 -- one round more
-pub rounds-more : (t : ℕ) (s : State) (w : List ℕ) → rounds (t + 1) s w ≡ round (rounds t s w) (get_or K t 0) (get_or w t 0)
+pub rounds_more : (t : ℕ) (s : State) (w : List ℕ) → rounds (t + 1) s w ≡ round (rounds t s w) (get_or K t 0) (get_or w t 0)
 unfolding rounds
-rounds-more t s w = rw add-one
+rounds_more t s w = rw add-one
 
 -- one word more of the schedule
-schedule-more : (n : ℕ) (w : List ℕ) → schedule (n + 1) w ≡ schedule n w ++ (Wt (schedule n w) ∷ [])
+schedule_more : (n : ℕ) (w : List ℕ) → schedule (n + 1) w ≡ schedule n w ++ (Wt (schedule n w) ∷ [])
 unfolding schedule
-schedule-more n w = rw add-one
+schedule_more n w = rw add-one
 
 -- one block more
-pub hashed-more : (i : ℕ) (m : List ℕ) → hashed (i + 1) m ≡ compress (hashed i m) (block m i)
+pub hashed_more : (i : ℕ) (m : List ℕ) → hashed (i + 1) m ≡ compress (hashed i m) (block m i)
 unfolding hashed
-hashed-more i m = rw add-one
+hashed_more i m = rw add-one
 
 -- the next word, by its places in an array that has the words before it
-pub Wt-take :
+pub word_from :
     (w : List ℕ) (t : ℕ) → 16 ≤ t → t ≤ length w
     → Wt (take t w) ≡ σ1 (get_or w (t - 2) 0) ⊞ get_or w (t - 7) 0 ⊞ σ0 (get_or w (t - 15) 0) ⊞ get_or w (t - 16) 0
 unfolding Wt
-Wt-take w t low high =
+word_from w t low high =
     let len : length (take t w) ≡ t = length-take-le t w high in
     let two : t - 2 < t = omega arith in
     let seven : t - 7 < t = omega arith in
@@ -43,12 +43,12 @@ Wt-take w t low high =
     simp (len, get_or-take t w (t - 2) 0 two, get_or-take t w (t - 7) 0 seven, get_or-take t w (t - 15) 0 fifteen, get_or-take t w (t - 16) 0 sixteen)
 
 -- t rounds do not see a word after the first t
-rounds-set : (t k y : ℕ) (s : State) (w : List ℕ) → t ≤ k → rounds t s (set w k y) ≡ rounds t s w
+rounds_set : (t k y : ℕ) (s : State) (w : List ℕ) → t ≤ k → rounds t s (set w k y) ≡ rounds t s w
 unfolding rounds
-rounds-set zero k y s w h = refl
-rounds-set (suc t) k y s w h =
+rounds_set zero k y s w h = refl
+rounds_set (suc t) k y s w h =
     let ne : t ≢ k = omega arith in
-    ap (λ r. round r (get_or K t 0) (get_or (set w k y) t 0)) (rounds-set t k y s w (omega arith))
+    ap (λ r. round r (get_or K t 0) (get_or (set w k y) t 0)) (rounds_set t k y s w (omega arith))
     ∙ ap (round (rounds t s w) (get_or K t 0)) (rw get_or-set_other)
 
 -- one round and one word more
@@ -59,13 +59,6 @@ reached_more t m v s r w h before turned =
     let y = Wt (take (t + 16) w) in
     let n : t + 1 + 16 ≡ t + 16 + 1 = omega arith in
     record {
-      words = ap (λ k. take k (set w (t + 16) y)) n ∙ take_more_set w (t + 16) y h ∙ ap (λ x. x ++ (Wt x ∷ [])) before.words ∙ sym (schedule-more t m);
-      state = turned ∙ sym (rounds-set (t + 1) (t + 16) y v w (omega arith));
+      words = ap (λ k. take k (set w (t + 16) y)) n ∙ take_more_set w (t + 16) y h ∙ ap (λ x. x ++ (Wt x ∷ [])) before.words ∙ sym (schedule_more t m);
+      state = turned ∙ sym (rounds_set (t + 1) (t + 16) y v w (omega arith));
     }
-
--- one word more of the bytes of the words ws
-pub bytes_step :
-    (ws before after : List ℕ) (i : ℕ) → i < length ws → take (4 * i) before ≡ flat_map bytes (take i ws)
-    → take (4 * (i + 1)) after ≡ take (4 * i) before ++ bytes (get_or ws i 0) → take (4 * (i + 1)) after ≡ flat_map bytes (take (i + 1) ws)
-bytes_step ws before after i h was put =
-    put ∙ ap (λ v. v ++ bytes (get_or ws i 0)) was ∙ flat_map_more bytes [] (take i ws) (get_or ws i 0) ∙ ap (flat_map bytes) (sym (take_more ws i 0 h))

@@ -1,6 +1,5 @@
-use Rattle.std.proofs.Common.{◌≡◌, ◌+◌, ◌*◌, length, sym, refl, ap, ◌∙◌, subst, arith, rules}
+use Rattle.std.proofs.Common.{◌≡◌, ◌+◌, sym, refl, ap, ◌∙◌, arith, rules}
 use Rattle.std.proofs.lemmas.List.{take_all}
-use Rattle.hash.specs.Schedule.{Reached}
 use Rattle.hash.specs.Sha256.{compress, rounds, schedule, sums, words}
 use Rattle.hash.proofs.sha2.State.compress.Goals as goal
 
@@ -19,7 +18,7 @@ pub loop-t-2-init : goal.loop-t-2-init
 loop-t-2-init c =
     let w = c.loop-t.schedule.words in
     let end : c.loop-t.t ≡ 48 = omega arith in
-        let all = rw end at c.loop-t.invariant.reached in
+    let all = rw end at c.loop-t.invariant.reached in
     record { even = refl; within = omega arith; filled = sym (take_all 64 w (omega arith)) ∙ all.words; reached = all.state }
 
 pub loop-t-2-preserved : goal.loop-t-2-preserved
