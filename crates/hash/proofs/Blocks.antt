@@ -1,8 +1,12 @@
 -- The blocks of a message, and what a tail changes. Assumes nothing.
-use Rattle.std.proofs.Common.{◌≡◌, ℕ, w32, zero, suc, ◌+◌, ◌*◌, ◌/◌, ◌<◌, ◌≤◌, List, [], ◌++◌, length, get_or, take, drop, sym, refl, ap, ◌∙◌, le_of_suc-le-suc, not-suc-le-zero, mul-zero, mul-suc, add-zero, slice_index, arith}
+use Rattle.std.proofs.Common.{bit_xor, map, set, ◌∷◌, ◌≡◌, ℕ, w32, zero, suc, ◌+◌, ◌*◌, ◌/◌, ◌<◌, ◌≤◌, List, [], ◌++◌, length, get_or, take, drop, sym, refl, ap, ◌∙◌, le_of_suc-le-suc, not-suc-le-zero, mul-zero, mul-suc, add-zero, slice_index, arith}
 use Rattle.std.specs.Int.{from_be_bytes}
+use Rattle.std.specs.List.{range_with_len}
 use Rattle.std.specs.Simd.{first_chunks}
-use Rattle.std.proofs.lemmas.List.{append_assoc, get_or-take, get_or-drop, drop-drop, drop-append-le, take-append-le, take_all, drop_all, length-drop, length-append}
+use Rattle.std.proofs.lemmas.List.FromFn.{map-range_with_len_more}
+use Rattle.std.proofs.lemmas.List.{take_more_set, append_assoc, get_or-take, get_or-drop, drop-drop, drop-append-le, take-append-le, take_all, drop_all, length-drop, length-append}
+use Rattle.hash.specs.Fold.{column}
+use Rattle.hash.specs.Columns.{column-more}
 use Rattle.hash.specs.Sha256.{hashed, compress, block, word}
 use Rattle.hash.proofs.Steps.{hashed_more}
 
@@ -25,13 +29,36 @@ pub hashed_next :
     → compress (hashed i m) (get_or pieces i []) ≡ hashed (i + 1) m
 hashed_next m i pieces cut within = ap (compress (hashed i m)) (chunk_at 64 i m pieces cut within) ∙ sym (hashed_more i m)
 
+-- a column of one piece more
+pub column_next :
+    (m : List ℕ) (k i : ℕ) (pieces : List (List ℕ)) → pieces ≡ first_chunks 32 (length m / 32) m → k < length m / 32 → i < 32
+    → bit_xor (column m k i) (slice_index (get_or pieces k []) i) ≡ column m (k + 1) i
+column_next m k i pieces cut within below =
+    ap (λ v. bit_xor (column m k i) (slice_index v i)) (chunk_at 32 k m pieces cut within)
+    ∙ ap (bit_xor (column m k i)) (get_or-take 32 (drop (32 * k) m) i 0 below ∙ get_or-drop (32 * k) m i 0)
+    ∙ sym (column-more m k i)
+
 -- a word of a block, which stands in four bytes of it
-pub word_of : (i : ℕ) (m bs : List ℕ) → bs ≡ take 4 (drop i m) → from_be_bytes w32 bs ≡ word m i
-word_of i m bs is =
-    let at : (k : ℕ) → k < 4 → slice_index bs k ≡ slice_index m (i + k) =
+word_of : (i : ℕ) (m bytes : List ℕ) → bytes ≡ take 4 (drop i m) → from_be_bytes w32 bytes ≡ word m i
+word_of i m bytes is =
+    let at : (k : ℕ) → k < 4 → slice_index bytes k ≡ slice_index m (i + k) =
     λ k h. ap (λ v. get_or v k 0) is ∙ get_or-take 4 (drop i m) k 0 h ∙ get_or-drop i m k 0 in
-    let first : slice_index bs 0 ≡ slice_index m i = at 0 (omega arith) ∙ ap (slice_index m) (add-zero i) in
+    let first : slice_index bytes 0 ≡ slice_index m i = at 0 (omega arith) ∙ ap (slice_index m) (add-zero i) in
     omega (arith, at 1 (omega arith), at 2 (omega arith), at 3 (omega arith))
+
+-- the words of a block as far as place t
+abbrev pub first_words : List ℕ → ℕ → List ℕ
+first_words m t = map (λ k. word m (4 * k)) (range_with_len 0 t)
+
+-- one word more of a block
+pub words_more :
+    (m w : List ℕ) (pieces : List (List ℕ)) (t x : ℕ) → pieces ≡ first_chunks 4 (length m / 4) m → t < length m / 4 → t < length w
+    → x ≡ from_be_bytes w32 (get_or pieces t []) → take t w ≡ first_words m t → take (t + 1) (set w t x) ≡ first_words m (t + 1)
+words_more m w pieces t x cut within room is before =
+    take_more_set w t x room
+    ∙ ap (λ v. v ++ (x ∷ [])) before
+    ∙ ap (λ v. first_words m t ++ (v ∷ [])) (is ∙ word_of (4 * t) m (get_or pieces t []) (chunk_at 4 t m pieces cut within))
+    ∙ sym (map-range_with_len_more (λ k. word m (4 * k)) 0 t t (omega arith))
 
 -- a whole block does not see a tail
 block_front : (i : ℕ) (m t : List ℕ) → 64 * (i + 1) ≤ length m → block (m ++ t) i ≡ block m i

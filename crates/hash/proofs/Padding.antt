@@ -1,6 +1,6 @@
 -- The last blocks of a message, as the code builds them. Assumes nothing.
 use Rattle.std.proofs.Common.{◌≡◌, ℕ, suc, ◌+◌, ◌-◌, ◌*◌, ◌/◌, ◌%◌, ◌^◌, ◌<◌, ◌≤◌, List, [], ◌∷◌, ◌++◌, length, take, drop, set, replicate, sym, refl, ap, ◌∙◌, arith}
-use borrow.Rule.Slice.PartMut.{post_of, put_mid}
+use borrow.Rule.Slice.PartMut.{put_mid}
 use Rattle.std.proofs.lemmas.List.{append-nil, append_assoc, set_at, take_at, drop-drop, drop_all, drop-replicate, length-append, length-replicate, replicate-append-replicate}
 use Rattle.hash.specs.Sha256.{hashed, compress, padded, length_bytes}
 use Rattle.hash.proofs.Blocks.{hashed_tail, hashed_tails}
@@ -10,18 +10,17 @@ abbrev marked : List ℕ → ℕ → List ℕ
 marked rest z = rest ++ (0x80 ∷ replicate z 0)
 
 -- what n zeros have after the first k
-zeros_after : (n k : ℕ) → k < n → drop {A = ℕ} (k - 0) (replicate n 0) ≡ 0 ∷ replicate (n - 1 - k) 0
+zeros_after : (n k : ℕ) → k < n → drop {A = ℕ} k (replicate n 0) ≡ 0 ∷ replicate (n - 1 - k) 0
 zeros_after n k h =
-    let none : k - 0 ≡ k = omega arith in
     let one : n - k ≡ suc (n - 1 - k) = omega arith in
-    rw (none, drop-replicate, one)
+    rw (drop-replicate, one)
 
 -- what `marked` leaves of n zeros: the rest, the mark, and zeros to the end
 pub marked_is :
     (n : ℕ) (rest y : List ℕ) → length rest < n → y ≡ rest
-    → set (y ++ post_of 0 (length rest - 0) (replicate n 0)) (length rest) 0x80 ≡ marked rest (n - 1 - length rest)
+    → set (y ++ drop (length rest) (replicate n 0)) (length rest) 0x80 ≡ marked rest (n - 1 - length rest)
 marked_is n rest y h e =
-    ap (λ v. set (v ++ drop (length rest - 0) (replicate n 0)) (length rest) 0x80) e
+    ap (λ v. set (v ++ drop (length rest) (replicate n 0)) (length rest) 0x80) e
     ∙ ap (λ v. set (rest ++ v) (length rest) 0x80) (zeros_after n (length rest) h)
     ∙ set_at rest 0 (replicate (n - 1 - length rest) 0) 0x80 (length rest) refl
 

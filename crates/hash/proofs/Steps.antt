@@ -51,14 +51,15 @@ rounds_set (suc t) k y s w h =
     ap (λ r. round r (get_or K t 0) (get_or (set w k y) t 0)) (rounds_set t k y s w (omega arith))
     ∙ ap (round (rounds t s w) (get_or K t 0)) (rw get_or-set_other)
 
--- one round and one word more
+-- one round and one word more, by what the calls for them say
 pub reached_more :
-    (t : ℕ) (m : List ℕ) (v s r : State) (w : List ℕ) → t + 16 < length w → Reached t m v s w → r ≡ rounds (t + 1) v w
-    → Reached (t + 1) m v r (set w (t + 16) (Wt (take (t + 16) w)))
-reached_more t m v s r w h before turned =
+    (t : ℕ) (m : List ℕ) (v s r : State) (w after : List ℕ) → t + 16 < length w → Reached t m v s w → ((u : State) → s ≡ rounds t u w → r ≡ rounds (t + 1) u w)
+    → after ≡ set w (t + 16) (Wt (take (t + 16) w)) → Reached (t + 1) m v r after
+reached_more t m v s r w after h before turned next =
     let y = Wt (take (t + 16) w) in
     let n : t + 1 + 16 ≡ t + 16 + 1 = omega arith in
     record {
-      words = ap (λ k. take k (set w (t + 16) y)) n ∙ take_more_set w (t + 16) y h ∙ ap (λ x. x ++ (Wt x ∷ [])) before.words ∙ sym (schedule_more t m);
-      state = turned ∙ sym (rounds_set (t + 1) (t + 16) y v w (omega arith));
+      words = ap (take (t + 1 + 16)) next
+          ∙ ap (λ k. take k (set w (t + 16) y)) n ∙ take_more_set w (t + 16) y h ∙ ap (λ x. x ++ (Wt x ∷ [])) before.words ∙ sym (schedule_more t m);
+      state = turned v before.state ∙ sym (rounds_set (t + 1) (t + 16) y v w (omega arith)) ∙ ap (rounds (t + 1) v) (sym next);
     }

@@ -3,6 +3,7 @@ ghost use Rattle.std.specs.Prelude.{◌≡◌, ℕ, ◌<◌, ◌≤◌, length, 
 ghost use Rattle.hash.specs.Fold.{folded};
 
 /// Adds a piece to the sum; one shorter than 32 bytes counts as filled with zero bytes.
+#[tactic(auto, using(crate::specs::Columns::xor_past))]
 fn mix(sum: &mut [u8; 32], piece: &[u8])
     requires { length piece.now ≤ 32 }
     ensures { (i : ℕ) → i < 32 → slice_index sum.new i ≡ bit_xor (slice_index sum.old i) (slice_index piece.now i) }
@@ -13,6 +14,7 @@ fn mix(sum: &mut [u8; 32], piece: &[u8])
 }
 
 /// The exclusive or of all pieces of a string; of the empty string, zero bytes.
+#[tactic(auto, using(crate::proofs::Blocks::column_next))]
 pub(crate) fn fold(bytes: &[u8]) -> [u8; 32]
     ensures { result ≡ folded bytes.now }
 {

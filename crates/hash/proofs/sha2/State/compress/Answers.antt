@@ -21,17 +21,6 @@ loop-t-2-init c =
     let all = rw end at c.loop-t.invariant.reached in
     record { even = refl; within = omega arith; filled = sym (take_all 64 w (omega arith)) ∙ all.words; reached = all.state }
 
-pub loop-t-2-preserved : goal.loop-t-2-preserved
-loop-t-2-preserved c =
-    let two : c.loop-t-2.t + 1 + 1 ≡ c.loop-t-2.t + 2 = omega arith in
-    let next = c.step-s-in-loop-t-2.ensures c.args.self (c.step-s.ensures c.args.self c.loop-t-2.invariant.reached) in
-    record {
-      even = omega arith;
-      within = omega arith;
-      filled = c.loop-t-2.invariant.filled;
-      reached = next ∙ ap (λ k. rounds k c.args.self c.loop-t.schedule.words) two;
-    }
-
 pub returns : goal.returns
 unfolding compress
 returns c =
