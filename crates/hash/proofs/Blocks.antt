@@ -1,4 +1,4 @@
--- The blocks of a message, and what a tail changes. Assumes nothing.
+-- The pieces of a message, as blocks, columns and words, and what a tail changes. Assumes nothing.
 use Rattle.std.proofs.Common.{bit_xor, map, set, ◌∷◌, ◌≡◌, ℕ, w32, zero, suc, ◌+◌, ◌*◌, ◌/◌, ◌<◌, ◌≤◌, List, [], ◌++◌, length, get_or, take, drop, sym, refl, ap, ◌∙◌, le_of_suc-le-suc, not-suc-le-zero, mul-zero, mul-suc, add-zero, slice_index, arith}
 use Rattle.std.specs.Int.{from_be_bytes}
 use Rattle.std.specs.List.{range_with_len}

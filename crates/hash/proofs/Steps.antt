@@ -1,11 +1,10 @@
--- The recursions of `Sha256`, one step at a time. Assumes nothing.
+-- The rotation, and the recursions of `Sha256`, one step at a time. Assumes nothing.
 use Rattle.std.proofs.Common.{◌≡◌, ℕ, w32, bit_or, ◌/◌, ◌%◌, ◌^◌, zero, suc, ◌+◌, ◌-◌, ◌*◌, ◌<◌, ◌≤◌, ◌≢◌, List, [], ◌∷◌, ◌++◌, length, get_or, take, set, sym, refl, ap, ◌∙◌, add-one, arith, get_or-set_other}
-use Rattle.std.specs.List.{flat_map}
 use Rattle.std.specs.Int.{rotate_right}
-use Rattle.std.proofs.lemmas.List.{length-take-le, get_or-take, take_more, take_more_set, flat_map_more}
+use Rattle.std.proofs.lemmas.List.{length-take-le, get_or-take, take_more_set}
 use Rattle.hash.specs.declared.sha2.State.{State}
 use Rattle.hash.specs.Schedule.{Reached}
-use Rattle.hash.specs.Sha256.{IsTurn, ROTR, K, round, rounds, schedule, Wt, σ0, σ1, ◌⊞◌, hashed, compress, block, bytes}
+use Rattle.hash.specs.Sha256.{IsTurn, ROTR, K, round, rounds, schedule, Wt, σ0, σ1, ◌⊞◌, hashed, compress, block}
 
 -- std's rotation, as the standard has it
 pub turned : (n x : ℕ) → IsTurn n → rotate_right w32 x n ≡ ROTR n x

@@ -26,6 +26,7 @@ state_digest s = (refl, words-bytes (s.a ∷ s.b ∷ s.c ∷ s.d ∷ s.e ∷ s.f
 
 -- SHA-256 gives a digest, of any list
 pub sha256_digest : (m : List ℕ) → Digest (sha256 m)
+unfolding sha256
 sha256_digest m = state_digest (hashed (length (padded m) / 64) (padded m))
 
 -- the fold gives one of every byte string

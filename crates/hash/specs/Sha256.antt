@@ -17,7 +17,7 @@ SHR n x = x / 2 ^ n
 abbrev pub ROTR : ℕ → ℕ → ℕ
 ROTR n x = bit_or (x / 2 ^ n) ((x * 2 ^ (32 - n)) % 2 ^ 32)
 
--- by how many bits the functions below rotate
+-- by how many places the functions below rotate: neither by none nor by a whole word
 abbrev pub IsTurn : ℕ → Type 0
 IsTurn n = (0 < n) × (n < 32)
 
@@ -152,5 +152,5 @@ bytes x = (x / 2 ^ 24 % 256) ∷ (x / 2 ^ 16 % 256) ∷ (x / 2 ^ 8 % 256) ∷ (x
 abbrev pub state_bytes : State → List ℕ
 state_bytes s = flat_map bytes (s.a ∷ s.b ∷ s.c ∷ s.d ∷ s.e ∷ s.f ∷ s.g ∷ s.h ∷ [])
 
-abbrev pub sha256 : List ℕ → List ℕ
+unfoldable pub sha256 : List ℕ → List ℕ
 sha256 m = state_bytes (hashed (length (padded m) / 64) (padded m))
