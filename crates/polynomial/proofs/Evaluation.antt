@@ -1,13 +1,18 @@
 -- Values of polynomials: they are codes, zero coefficients at the end change nothing, and one more step after Horner.
-use Rattle.std.proofs.Common.{◌≡◌, ℕ, zero, suc, ◌+◌, ◌<◌, List, [], ◌∷◌, ◌++◌, length, get_or, drop, replicate, refl, ap, ◌∙◌, add-one, drop-cons}
+use Rattle.std.proofs.Common.{◌≡◌, ℕ, zero, suc, ◌<◌, List, [], ◌∷◌, ◌++◌, reverse, replicate, refl, ap, ◌∙◌}
+use Rattle.std.specs.List.{fold}
+use Rattle.std.proofs.lemmas.List.{reverse-append}
+use Rattle.std.proofs.lemmas.List.Sums.{fold-append}
 use Rattle.field.specs.Laws.{Arithmetic, RingLaws}
 use Rattle.field.proofs.Rings.{zero_code, mul-zero}
 use Rattle.polynomial.specs.Polynomial.{Codes, eval}
 
--- One more coefficient, from the last on.
-pub eval-more : (R : Arithmetic) (row : List ℕ) (i x : ℕ) → i < length row →
-    eval R (drop i row) x ≡ R.add (get_or row i 0) (R.mul x (eval R (drop (i + 1) row) x))
-eval-more R row i x h = rw (add-one, drop-cons row i 0)
+-- Horner's rule: the coefficients from the last on, each added to x times the value so far.
+pub eval-fold : (R : Arithmetic) (row : List ℕ) (x : ℕ) → fold (λ v c. R.add c (R.mul x v)) 0 (reverse row) ≡ eval R row x
+eval-fold R [] x = refl
+eval-fold R (c ∷ cs) x =
+    let step = λ (v c : ℕ). R.add c (R.mul x v) in
+    ap (fold step 0) (reverse-append (c ∷ []) cs) ∙ fold-append step 0 (reverse cs) (c ∷ []) ∙ ap (λ v. step v c) (eval-fold R cs x)
 
 module _ (R : Arithmetic) (L : RingLaws R) where
   pub eval_code : (p : List ℕ) (x : ℕ) → eval R p x < R.size

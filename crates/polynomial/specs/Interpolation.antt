@@ -15,11 +15,18 @@ rising low high (x ∷ xs) = (nat_le low x && nat_lt x high) && rising (x + 1) h
 abbrev pub admitted : Arithmetic → List ℕ → Bool
 admitted R xs = (nat_le 1 (length xs) && nat_le (length xs) 6) && rising 0 R.size xs
 
+-- The codes of a basis, and the rows of its table.
+abbrev pub codes_at : Basis → List ℕ
+codes_at b = map (λ e. e.code) (take b.count b.entries)
+
+abbrev pub rows_of : Basis → List (List ℕ)
+rows_of b = map (λ e. e.row) b.entries
+
 -- What a basis at the codes xs holds.
 pub record BasisOf (R : Arithmetic) (inv : ℕ → ℕ) (xs : List ℕ) (b : Basis) : Type 0 where
   pub as_many : b.count ≡ length xs
-  pub places : take b.count b.codes ≡ xs
-  pub table : IsBasis R inv xs b.rows
+  pub places : codes_at b ≡ xs
+  pub table : IsBasis R inv xs (rows_of b)
 
 -- The codes at which points stand, and their values there.
 abbrev pub codes_of : List (ℕ × ℕ) → List ℕ
@@ -30,11 +37,11 @@ values_of = map (λ p. p.1)
 
 -- The points stand at the codes of the basis, in their order.
 abbrev pub stands_at : Basis → List (ℕ × ℕ) → Bool
-stands_at b ps = nat_le b.count 6 && same_numbers (codes_of ps) (take b.count b.codes)
+stands_at b ps = same_numbers (codes_of ps) (codes_at b)
 
 -- The six coefficients that the table of a basis makes of the values of the points.
 abbrev pub combined : Arithmetic → Basis → List (ℕ × ℕ) → List ℕ
-combined R b ps = map (λ i. dot R (values_of ps) (column i b.rows)) (range_with_len 0 6)
+combined R b ps = map (λ i. dot R (values_of ps) (column i (rows_of b))) (range_with_len 0 6)
 
 -- They are the answer for points at the codes of the basis, and there is none for others.
 abbrev pub answered : Arithmetic → Basis → List (ℕ × ℕ) → Option (List ℕ)

@@ -8,9 +8,7 @@ use field::Field;
 pub fn value_at<F: Field>(row: &[u8], x: u16) -> u16
     ensures { result ≡ eval F.arithmetic row.now x }
 {
-    let mut value = 0;
-    for i in (0..row.len()).rev() {
-        value = F::sum(row[i] as u16, F::product(x, value));
-    }
-    value
+    row.iter().rfold(0, |value, coefficient| {
+        F::sum(u16::from(*coefficient), F::product(x, value))
+    })
 }

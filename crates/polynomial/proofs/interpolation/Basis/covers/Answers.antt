@@ -1,22 +1,14 @@
--- The test of the points says whether their codes are those of the basis.
-use Rattle.std.proofs.Common.{⊎_elim, arith}
-use Rattle.polynomial.proofs.Bases.{stands_when, stands_not, as_many_points, same_code, same_codes}
+-- Where there are as many points as codes, comparing them one by one compares the lists.
+use Rattle.std.proofs.Common.{nat_eq, take, rules, tests, ◌∙◌, arith}
+use Rattle.std.proofs.lemmas.Iterator.{YieldsList-from_slice, YieldsList-from_zip}
+use Rattle.std.proofs.lemmas.Iterator.Search.{all_from_yields_List}
+use Rattle.polynomial.proofs.Bases.{same_codes}
 use Rattle.polynomial.proofs.interpolation.Basis.covers.Goals as goal
 
-pub returns-then-count-gt-MOST : goal.returns-then-count-gt-MOST
-returns-then-count-gt-MOST c =
-    let b = c.args.self.now in
+pub returns-then-points-entries : goal.returns-then-points-entries
+returns-then-points-entries c =
     let ps = c.args.points.now in
-    stands_not b ps (λ h e. ⊎_elim (λ over. omega arith) (λ p. p.1 (as_many_points b ps (omega arith) h e)) c.then-count-gt-MOST.either)
-
-pub returns-then-points-i : goal.returns-then-points-i
-returns-then-points-i c =
-    let b = c.args.self.now in
-    let ps = c.args.points.now in
-    stands_not b ps (λ h e. c.if-points-i.true (same_code b ps c.loop-i.i (omega arith) (omega arith) e))
-
-pub returns : goal.returns
-returns c =
-    let b = c.args.self.now in
-    let ps = c.args.points.now in
-    stands_when b ps (omega arith) (same_codes b ps (omega arith) (omega arith) (omega arith) (λ i h. c.loop-i.invariant i (omega arith)))
+    let es = take c.args.self.now.count c.args.self.now.entries in
+    all_from_yields_List (λ q. nat_eq q.0.0 q.1.code) c.all.new.self _ c.all.result c.all.ensures.ran
+    (YieldsList-from_zip (YieldsList-from_slice ps cc) (YieldsList-from_slice es cc)) (λ x b q k. search (rules, tests))
+    ∙ same_codes ps es (omega arith)

@@ -2,7 +2,7 @@
 use Rattle.std.proofs.Common.{get_or}
 use Rattle.polynomial.specs.Polynomial.{slope}
 use Rattle.polynomial.proofs.Steps.{Filled}
-use Rattle.polynomial.proofs.interpolation.to_slopes.Given as goal
+use Rattle.polynomial.proofs.differences.to_slopes.Given as goal
 
 abbrev pub invariant-loop-i : goal.invariant-loop-i
 invariant-loop-i g l =

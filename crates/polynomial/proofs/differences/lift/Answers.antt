@@ -4,7 +4,7 @@ use Rattle.std.proofs.lemmas.List.{ext_get_or}
 use Rattle.std.proofs.lemmas.Bool.{cases_lt}
 use Rattle.polynomial.specs.Polynomial.{lifted}
 use Rattle.polynomial.proofs.Steps.{filled_more, lifted_low, lifted_top, lifted-length}
-use Rattle.polynomial.proofs.interpolation.lift.Goals as goal
+use Rattle.polynomial.proofs.differences.lift.Goals as goal
 
 pub loop-i-init : goal.loop-i-init
 loop-i-init g c = ((λ k h. absurd (omega arith)), (λ k h. refl))

@@ -4,7 +4,7 @@ use Rattle.std.proofs.lemmas.List.{ext_get_or}
 use Rattle.polynomial.specs.Polynomial.{slopes}
 use Rattle.polynomial.proofs.Newton.{slopes-length}
 use Rattle.polynomial.proofs.Steps.{filled_more, slopes_at}
-use Rattle.polynomial.proofs.interpolation.to_slopes.Goals as goal
+use Rattle.polynomial.proofs.differences.to_slopes.Goals as goal
 
 pub loop-i-preserved : goal.loop-i-preserved
 loop-i-preserved g c =

@@ -1,7 +1,7 @@
 -- The coefficients before i - 1 are lifted, and the others as they were.
 use Rattle.std.proofs.Common.{◌+◌, ◌-◌, get_or}
 use Rattle.polynomial.proofs.Steps.{Filled}
-use Rattle.polynomial.proofs.interpolation.lift.Given as goal
+use Rattle.polynomial.proofs.differences.lift.Given as goal
 
 abbrev pub invariant-loop-i : goal.invariant-loop-i
 invariant-loop-i g l =
