@@ -1,5 +1,5 @@
 -- The coefficients that a Lagrange basis makes of values, as sums of products, are those of the polynomial with these values.
-use Rattle.std.proofs.Common.{◌≡◌, ℕ, zero, suc, ◌+◌, ◌<◌, ◌≤◌, ◌≢◌, List, [], ◌∷◌, map, length, get_or, take, drop, replicate, sym, refl, ap, ◌∙◌, ap₂, zero-add, add-one, arith, drop-cons}
+use Rattle.std.proofs.Common.{◌≡◌, ℕ, zero, suc, ◌<◌, ◌≤◌, ◌≢◌, List, [], ◌∷◌, map, length, get_or, take, replicate, sym, refl, ap, ◌∙◌, ap₂, zero-add, arith}
 use Rattle.std.specs.List.{range_with_len, AllByRecursion}
 use Rattle.std.proofs.lemmas.List.{ext_get_or, get_or-replicate, get_or-map, get_or-set_same, get_or-set_other, get_or-take, length-map, length-replicate, length-set, take-replicate}
 use Rattle.std.proofs.ByRecursion.{All-from_get_or, All-get_or, All-set}
@@ -73,12 +73,6 @@ take-unit (suc m) (suc n) (suc j) h = ap (λ l. 0 ∷ l) (take-unit m n j (omega
 
 pub unit-length : (k j : ℕ) → length (unit k j) ≡ k
 unit-length k j = length-set (replicate k 0) j 1 ∙ length-replicate k 0
-
--- One more product, from the last on.
-pub dot-more : (R : Arithmetic) (vs : List ℕ) (rows : List (List ℕ)) (i j : ℕ) → j < length vs → j < length rows →
-    dot R (drop j vs) (column i (drop j rows))
-    ≡ R.add (R.mul (get_or vs j 0) (get_or (get_or rows j []) i 0)) (dot R (drop (j + 1) vs) (column i (drop (j + 1) rows)))
-dot-more R vs rows i j h k = rw (add-one, drop-cons vs j 0, drop-cons rows j []) refl
 
 module _ (R : Arithmetic) (L : RingLaws R) where
   -- (a + b) + (c + d) is (a + c) + (b + d)

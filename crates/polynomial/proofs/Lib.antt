@@ -2,6 +2,5 @@ pub mod Evaluation
 pub mod Roots
 pub mod Newton
 pub mod Risen
-pub mod Steps
 pub mod Lagrange
 pub mod Bases

@@ -1,24 +1,11 @@
 -- Lists that rise: the test one element on, and that such a list is distinct and within its bounds.
-use Rattle.std.proofs.Common.{◌≡◌, ℕ, ◌+◌, ◌<◌, ◌≤◌, true, false, List, [], ◌∷◌, length, get_or, drop, ◌∙◌, arith}
+use Rattle.std.proofs.Common.{◌≡◌, ℕ, ◌+◌, ◌<◌, ◌≤◌, true, List, [], ◌∷◌, arith}
 use Rattle.std.proofs.ByRecursion.{All-weaker}
-use Rattle.std.proofs.lemmas.List.{at_drop_more}
 use Rattle.std.proofs.lemmas.Bool.{and_parts, leb-true, ltb-true}
-use Rattle.std.proofs.lemmas.Bool.Decides.{nat_tests}
 use Rattle.field.specs.Laws.{Arithmetic}
 use Rattle.std.specs.List.{AllByRecursion}
 use Rattle.polynomial.specs.Polynomial.{Codes, Distinct}
 use Rattle.polynomial.specs.Interpolation.{rising, admitted}
-
--- The element at i is within its bounds: the rest decides.
-pub rising-more : (low high : ℕ) (xs : List ℕ) (i : ℕ) → i < length xs → low ≤ get_or xs i 0 → get_or xs i 0 < high →
-    rising low high (drop i xs) ≡ rising (get_or xs i 0 + 1) high (drop (i + 1) xs)
-rising-more low high xs i h l u = at_drop_more (rising low high) xs i 0 h ∙ grind (arith, nat_tests)
-
-pub rising_low : (low high : ℕ) (xs : List ℕ) (i : ℕ) → i < length xs → get_or xs i 0 < low → rising low high (drop i xs) ≡ false
-rising_low low high xs i h l = at_drop_more (rising low high) xs i 0 h ∙ grind (arith, nat_tests)
-
-pub rising_high : (low high : ℕ) (xs : List ℕ) (i : ℕ) → i < length xs → high ≤ get_or xs i 0 → rising low high (drop i xs) ≡ false
-rising_high low high xs i h u = at_drop_more (rising low high) xs i 0 h ∙ grind (arith, nat_tests)
 
 -- What the test tells of the first element and of the others.
 rising_parts : (low high x : ℕ) (xs : List ℕ) → rising low high (x ∷ xs) ≡ true → (low ≤ x) × (x < high) × (rising (x + 1) high xs ≡ true)
