@@ -1,4 +1,4 @@
--- What interpolation by a basis answers for points at its codes, and the sum of products that a coefficient is.
+-- Comparing points with a basis, the sum of products that a coefficient is, and that the coefficients are those of the polynomial through the points.
 use Rattle.std.proofs.Common.{◌≡◌, ℕ, ◌&&◌, nat_eq, refl, ◌<◌, List, [], ◌∷◌, map, length, get_or, take, sym, ap, ◌∙◌, subst, zero-add, arith}
 use Rattle.std.specs.List.{fold, list_all, zip}
 use Rattle.std.specs.Str.{bytes_eq as same_numbers}

@@ -1,4 +1,4 @@
--- Values of polynomials: they are codes, zero coefficients at the end change nothing, and one more step after Horner.
+-- Values of polynomials: they are what Horner's rule gives, they are codes, and zero coefficients at the end change nothing.
 use Rattle.std.proofs.Common.{◌≡◌, ℕ, zero, suc, ◌<◌, List, [], ◌∷◌, ◌++◌, reverse, replicate, refl, ap, ◌∙◌}
 use Rattle.std.specs.List.{fold}
 use Rattle.std.proofs.lemmas.List.{reverse-append}

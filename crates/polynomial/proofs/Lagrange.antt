@@ -1,7 +1,7 @@
 -- The coefficients that a Lagrange basis makes of values, as sums of products, are those of the polynomial with these values.
-use Rattle.std.proofs.Common.{◌≡◌, ℕ, zero, suc, ◌<◌, ◌≤◌, ◌≢◌, List, [], ◌∷◌, map, length, get_or, take, replicate, sym, refl, ap, ◌∙◌, ap₂, zero-add, arith}
+use Rattle.std.proofs.Common.{◌≡◌, ℕ, zero, suc, ◌<◌, ◌≤◌, ◌≢◌, List, [], ◌∷◌, map, length, get_or, replicate, sym, refl, ap, ◌∙◌, ap₂, zero-add, arith}
 use Rattle.std.specs.List.{range_with_len, AllByRecursion}
-use Rattle.std.proofs.lemmas.List.{ext_get_or, get_or-replicate, get_or-map, get_or-set_same, get_or-set_other, get_or-take, length-map, length-replicate, length-set, take-replicate}
+use Rattle.std.proofs.lemmas.List.{ext_get_or, get_or-replicate, get_or-map, get_or-set_same, get_or-set_other, get_or-take, length-map, length-replicate, length-set}
 use Rattle.std.proofs.ByRecursion.{All-from_get_or, All-get_or, All-set}
 use Rattle.std.proofs.lemmas.List.FromFn.{get_or-map-range_with_len, length-map-range_with_len}
 use Rattle.field.specs.Laws.{Arithmetic, RingLaws, FieldLaws}
@@ -63,13 +63,6 @@ dot_same R (v ∷ vs) [] bs n m h = absurd (omega arith)
 dot_same R (v ∷ vs) (a ∷ us) [] n m h = absurd (omega arith)
 dot_same R (v ∷ vs) (a ∷ us) (b ∷ bs) n m h =
     ap₂ (λ x y. R.add (R.mul v x) y) (h 0 (omega arith)) (dot_same R vs us bs (omega arith) (omega arith) (λ j l. h (suc j) (omega arith)))
-
--- A unit, cut from a longer one.
-pub take-unit : (m n j : ℕ) → n ≤ m → take n (unit m j) ≡ unit n j
-take-unit m zero j h = refl
-take-unit zero (suc n) j h = absurd (omega arith)
-take-unit (suc m) (suc n) zero h = ap (λ l. 1 ∷ l) (take-replicate n m 0 (omega arith))
-take-unit (suc m) (suc n) (suc j) h = ap (λ l. 0 ∷ l) (take-unit m n j (omega arith))
 
 pub unit-length : (k j : ℕ) → length (unit k j) ≡ k
 unit-length k j = length-set (replicate k 0) j 1 ∙ length-replicate k 0

@@ -1,4 +1,4 @@
--- Lists that rise: the test one element on, and that such a list is distinct and within its bounds.
+-- Lists that rise are distinct and within their bounds.
 use Rattle.std.proofs.Common.{◌≡◌, ℕ, ◌+◌, ◌<◌, ◌≤◌, true, List, [], ◌∷◌, arith}
 use Rattle.std.proofs.ByRecursion.{All-weaker}
 use Rattle.std.proofs.lemmas.Bool.{and_parts, leb-true, ltb-true}

@@ -8,7 +8,7 @@ use field::Field;
 use std::array;
 
 /// A code of a basis, and the coefficients of the polynomial that is 1 there and 0 at the other codes.
-#[derive(Clone, Copy)]
+#[derive(Clone, Copy, Default)]
 struct Entry {
     code: u16,
     row: [u16; MOST],
@@ -19,7 +19,7 @@ struct Entry {
 pub struct Basis {
     count: usize,
     entries: [Entry; MOST],
-    // There is an entry for each code.
+    // The entries that count are the first ones.
     ghost few: { count ≤ 6 },
 }
 
@@ -35,11 +35,7 @@ impl Basis {
         if !is_admitted::<F>(codes) {
             return None;
         }
-        let blank = Entry {
-            code: 0,
-            row: [0; MOST],
-        };
-        let mut entries = [blank; MOST];
+        let mut entries = [Entry::default(); MOST];
         for (j, code) in codes.iter().enumerate() {
             entries[j] = Entry {
                 code: *code,
