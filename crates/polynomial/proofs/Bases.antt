@@ -14,12 +14,12 @@ use Rattle.polynomial.proofs.Newton.{interpolates}
 use Rattle.polynomial.proofs.Lagrange.{by_rows}
 
 -- Comparing as many points as entries one by one compares their codes.
-pub same_codes : (ps : List (ℕ × ℕ)) (es : List Entry) → length ps ≡ length es →
+pub same_codes_by_pairs : (ps : List (ℕ × ℕ)) (es : List Entry) → length ps ≡ length es →
     list_all (λ q. nat_eq q.0.0 q.1.code) (zip ps es) ≡ same_numbers (codes_of ps) (map (λ e. e.code) es)
-same_codes [] [] n = refl
-same_codes [] (e ∷ es) n = absurd (omega arith)
-same_codes (p ∷ ps) [] n = absurd (omega arith)
-same_codes (p ∷ ps) (e ∷ es) n = ap (λ rest. nat_eq p.0 e.code && rest) (same_codes ps es (omega arith))
+same_codes_by_pairs [] [] n = refl
+same_codes_by_pairs [] (e ∷ es) n = absurd (omega arith)
+same_codes_by_pairs (p ∷ ps) [] n = absurd (omega arith)
+same_codes_by_pairs (p ∷ ps) (e ∷ es) n = ap (λ rest. nat_eq p.0 e.code && rest) (same_codes_by_pairs ps es (omega arith))
 
 module _ (R : Arithmetic) (L : RingLaws R) where
   dot_code : (vs ws : List ℕ) → dot R vs ws < R.size

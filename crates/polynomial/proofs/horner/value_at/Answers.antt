@@ -1,3 +1,4 @@
+-- The fold from the last coefficient on is Horner's rule.
 use Rattle.std.proofs.Common.{◌≡◌, rules, reverse, ◌∙◌}
 use Rattle.std.proofs.iter.runs.Made.{chains}
 use Rattle.std.specs.List.{fold}
