@@ -9,14 +9,14 @@ ghost use Rattle.refusal.specs.declared.Refusal.TheVariants.{Overrun};
 use refusal::Refusal;
 
 /// An element is not a code of the field.
-#[derive(Clone, Copy, PartialEq, Eq)]
+#[derive(Clone, Copy, Debug, PartialEq, Eq)]
 pub struct FieldFault {
     /// The element's first byte in the frame.
     pub place: usize,
 }
 
 /// A frame breaks the layout of its kind, or a fault of the field is in it.
-#[derive(Clone, Copy, PartialEq, Eq)]
+#[derive(Clone, Copy, Debug, PartialEq, Eq)]
 pub enum FrameFault {
     /// The layout is broken.
     Torn {
@@ -27,26 +27,7 @@ pub enum FrameFault {
     Field(FieldFault),
 }
 
-impl FieldFault {
-    /// What it is refused with.
-    pub fn refusal(self) -> Refusal
-        ensures { result ≡ Overrun }
-    {
-        Refusal::Overrun
-    }
-}
-
 impl FrameFault {
-    /// What it is refused with.
-    pub fn refusal(self) -> Refusal
-        ensures { result ≡ refusal self }
-    {
-        match self {
-            FrameFault::Torn { place: _ } => Refusal::Torn,
-            FrameFault::Field(fault) => fault.refusal(),
-        }
-    }
-
     /// The byte of the frame where it is.
     pub fn place(self) -> usize
         ensures { result ≡ place self }
@@ -63,5 +44,24 @@ impl From<FieldFault> for FrameFault {
 
     fn from(below: FieldFault) -> FrameFault {
         FrameFault::Field(below)
+    }
+}
+
+impl From<FieldFault> for Refusal {
+    ghost from_gives = { λ fault r. r ≡ Overrun };
+
+    fn from(_fault: FieldFault) -> Refusal {
+        Refusal::Overrun
+    }
+}
+
+impl From<FrameFault> for Refusal {
+    ghost from_gives = { λ fault r. r ≡ refusal fault };
+
+    fn from(fault: FrameFault) -> Refusal {
+        match fault {
+            FrameFault::Torn { .. } => Refusal::Torn,
+            FrameFault::Field(fault) => fault.into(),
+        }
     }
 }

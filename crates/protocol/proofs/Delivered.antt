@@ -2,8 +2,8 @@
 use Rattle.std.proofs.Common.{◌≡◌, ℕ, Bool, true, false, cond, eqb, ◌⊎◌, [], ◌∷◌, Some, Option, sym, refl, ap, ◌∙◌, subst, inl, inr}
 use Rattle.std.specs.Str.{bytes_eq}
 use Rattle.std.proofs.lemmas.Bool.{eqb-true, or_right}
-use Rattle.protocol.specs.declared.kind.Kind.{Kind}
-use Rattle.protocol.specs.declared.kind.Kind.TheVariants.{Send, Echo, Ready, Hash, Symbol}
+use Rattle.kind.specs.declared.Kind.{Kind}
+use Rattle.kind.specs.declared.Kind.TheVariants.{Send, Echo, Ready, Hash, Symbol}
 use Rattle.protocol.specs.Optional.{passing, meets}
 use Rattle.protocol.specs.Messages.{Bytes, Parcel, Message, send, echo, ready, hash, symbol, kind, sender, sent, echoed, readied, hashed, symboled}
 use Rattle.protocol.specs.Setting.{Setting, formed}

@@ -2,8 +2,8 @@
 use Rattle.std.proofs.Common.{◌≡◌, ℕ, ◌+◌, ◌-◌, ◌≤◌, Bool, true, false, cond, not, ◌&&◌, leb, [], ◌∷◌, Some, Option, sym, refl, ap, ◌∙◌, inl, inr, arith}
 use Rattle.std.specs.Str.{bytes_eq}
 use Rattle.std.proofs.lemmas.Bool.{and_parts, or_cases, not-true, leb-true, le-leb, lt-leb, eqb-true, cond-true, cond-false, cases_Bool, both_ways, true≢false}
-use Rattle.protocol.specs.declared.kind.Kind.{Kind}
-use Rattle.protocol.specs.declared.kind.Kind.TheVariants.{Hash, Symbol}
+use Rattle.kind.specs.declared.Kind.{Kind}
+use Rattle.kind.specs.declared.Kind.TheVariants.{Hash, Symbol}
 use Rattle.protocol.specs.Optional.{missing}
 use Rattle.protocol.specs.Counting.{count}
 use Rattle.protocol.specs.Messages.{Bytes, Message, hash, symbol, echoed, hashed, symboled}

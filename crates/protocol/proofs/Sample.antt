@@ -4,8 +4,8 @@ use Rattle.std.specs.List.{AllByRecursion}
 use Rattle.std.specs.Str.{bytes_eq}
 use Rattle.std.proofs.lemmas.List.{length-take-le}
 use Rattle.std.proofs.lemmas.Bool.{leb-true, le-leb, cases_eq, both_ways, cond-true, not-true}
-use Rattle.protocol.specs.declared.kind.Kind.{Kind}
-use Rattle.protocol.specs.declared.kind.Kind.TheVariants.{Send, Echo, Ready, Hash, Symbol}
+use Rattle.kind.specs.declared.Kind.{Kind}
+use Rattle.kind.specs.declared.Kind.TheVariants.{Send, Echo, Ready, Hash, Symbol}
 use Rattle.protocol.specs.Optional.{first, passing, meets}
 use Rattle.protocol.specs.Counting.{count, every, those, lowest}
 use Rattle.protocol.specs.Messages.{Bytes, Message, send, echo, ready, hash, symbol}

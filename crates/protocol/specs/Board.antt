@@ -2,8 +2,8 @@
 use Rattle.std.specs.Prelude.{ℕ, ◌+◌, Bool, true, cond, not, ◌&&◌, List, [], ◌∷◌, None, Option, ◌==◌, nat_le}
 use Rattle.std.specs.Option.{option_map}
 use Rattle.std.specs.Str.{bytes_eq}
-use Rattle.protocol.specs.declared.kind.Kind.{Kind}
-use Rattle.protocol.specs.declared.kind.Kind.TheVariants.{Send, Echo, Ready, Hash, Symbol}
+use Rattle.kind.specs.declared.Kind.{Kind}
+use Rattle.kind.specs.declared.Kind.TheVariants.{Send, Echo, Ready, Hash, Symbol}
 use Rattle.protocol.specs.Optional.{first, only, passing, meets, missing}
 use Rattle.protocol.specs.Counting.{count}
 use Rattle.protocol.specs.Messages.{Bytes, Parcel, Message, send, echo, ready, hash, symbol, sender, sent, echoed, readied}

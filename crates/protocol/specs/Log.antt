@@ -1,8 +1,8 @@
 -- The log of a floor (a dealer, boards and fetchers): what happened, the newest first; and what may happen.
 use Rattle.std.specs.Prelude.{◌≡◌, ℕ, ◌+◌, ◌-◌, ◌<◌, ◌≤◌, Bool, true, false, cond, not, ◌||◌, ◌⊎◌, List, [], ◌∷◌, Some, None, Option, ◌==◌, nat_le}
 use Rattle.std.specs.Option.{option_map}
-use Rattle.protocol.specs.declared.kind.Kind.{Kind}
-use Rattle.protocol.specs.declared.kind.Kind.TheVariants.{Send, Echo, Ready, Hash, Symbol}
+use Rattle.kind.specs.declared.Kind.{Kind}
+use Rattle.kind.specs.declared.Kind.TheVariants.{Send, Echo, Ready, Hash, Symbol}
 use Rattle.protocol.specs.Optional.{first}
 use Rattle.protocol.specs.Counting.{count}
 use Rattle.protocol.specs.Messages.{Bytes, Message, send, kind, sender}

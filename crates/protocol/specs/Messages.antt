@@ -1,7 +1,7 @@
 -- The messages. A message of a board begins with the board's number; vectors, fragments and shares are byte strings.
 use Rattle.std.specs.Prelude.{ℕ, List, Some, None, Option}
-use Rattle.protocol.specs.declared.kind.Kind.{Kind}
-use Rattle.protocol.specs.declared.kind.Kind.TheVariants.{Send, Echo, Ready, Hash, Symbol}
+use Rattle.kind.specs.declared.Kind.{Kind}
+use Rattle.kind.specs.declared.Kind.TheVariants.{Send, Echo, Ready, Hash, Symbol}
 
 abbrev pub Bytes : Type 0
 Bytes = List ℕ

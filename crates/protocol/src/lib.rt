@@ -6,8 +6,6 @@ ghost use Rattle.protocol.specs.Machines.{Machines};
 ghost use Rattle.protocol.specs.Promises.{Promises, Possible};
 ghost use Rattle.protocol.specs.Setting.{Setting, Laws};
 
-mod kind;
-
 pub use kind::Kind;
 
 /// What the protocol promises: agreement, totality, knowledge and comparison over every valid log and every lawful setting; that its parties are machines; and that there is such a log.

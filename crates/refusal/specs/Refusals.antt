@@ -2,8 +2,8 @@
 use Rattle.std.specs.Prelude.{List, ℕ, codes}
 use Rattle.refusal.specs.declared.Refusal.{Refusal}
 use Rattle.refusal.specs.declared.Refusal.TheVariants.{Misfit, Short, Torn, Stray, Overrun, Miscut, Upright, Turned, Enough, Twice, Early}
-use Rattle.refusal.specs.declared.Layer.{Layer}
-use Rattle.refusal.specs.declared.Layer.TheVariants.{Field, Frame, Party, Floor}
+use Rattle.refusal.specs.declared.layer.Layer.{Layer}
+use Rattle.refusal.specs.declared.layer.Layer.TheVariants.{Field, Frame, Party, Floor}
 
 -- A row of the table of refusals.
 pub record Row : Type 0 where

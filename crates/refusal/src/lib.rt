@@ -1,14 +1,20 @@
 //! The refusals: each has a number, a word and the layer that it comes from, and where several fit the smaller number is given.
 #![tactic(auto)]
 
-ghost use Rattle.std.specs.Prelude.{◌≡◌};
-ghost use Rattle.refusal.specs.Refusals.{number, word, layer, layer_word};
+ghost use Rattle.std.specs.Prelude.{◌≡◌, Some};
+ghost use Rattle.std.specs.Fmt.{padded};
+ghost use Rattle.refusal.specs.Refusals.{number, word, layer};
 
-/// Why a call says no.
-#[derive(Clone, Copy, PartialEq, Eq)]
+mod layer;
+
+pub use layer::Layer;
+use std::fmt;
+
+/// Why a call says no, each with its number, by which refusals are ranked.
+#[derive(Clone, Copy, Debug, PartialEq, Eq)]
 pub enum Refusal {
     /// t, the rows or the number of fetchers is outside its range.
-    Misfit,
+    Misfit = 1,
     /// The memory, or a place to write, is too short.
     Short,
     /// A frame breaks the layout of its kind.
@@ -31,40 +37,8 @@ pub enum Refusal {
     Early,
 }
 
-/// The layer that a refusal comes from.
-#[derive(Clone, Copy, PartialEq, Eq)]
-pub enum Layer {
-    /// Elements of a field.
-    Field,
-    /// Frames on the wire.
-    Frame,
-    /// Who takes which frame.
-    Party,
-    /// A call as a whole.
-    Floor,
-}
-
 impl Refusal {
-    /// Its number, by which refusals are ranked.
-    pub fn number(self) -> u8
-        ensures { result ≡ number self }
-    {
-        match self {
-            Refusal::Misfit => 1,
-            Refusal::Short => 2,
-            Refusal::Torn => 3,
-            Refusal::Stray => 4,
-            Refusal::Overrun => 5,
-            Refusal::Miscut => 6,
-            Refusal::Upright => 7,
-            Refusal::Turned => 8,
-            Refusal::Enough => 9,
-            Refusal::Twice => 10,
-            Refusal::Early => 11,
-        }
-    }
-
-    /// Its word.
+    /// Its word, also for callers that have nothing to format it with.
     pub fn word(self) -> &'static str
         ensures { result.now ≡ word self }
     {
@@ -96,16 +70,20 @@ impl Refusal {
     }
 }
 
-impl Layer {
-    /// Its word.
-    pub fn word(self) -> &'static str
-        ensures { result.now ≡ layer_word self }
-    {
-        match self {
-            Layer::Field => "field",
-            Layer::Frame => "frame",
-            Layer::Party => "party",
-            Layer::Floor => "floor",
-        }
+impl From<Refusal> for u8 {
+    ghost from_gives = { λ refusal n. n ≡ number refusal };
+
+    fn from(refusal: Refusal) -> u8 {
+        refusal as u8
+    }
+}
+
+impl fmt::Display for Refusal {
+    ghost output = { λ refusal. Some (word refusal) };
+
+    ghost styled_output = { λ refusal spec. Some (padded spec (word refusal)) };
+
+    fn fmt<W: fmt::Write>(&self, f: &mut fmt::Formatter<W>) -> fmt::Result {
+        f.pad(self.word())
     }
 }
