@@ -4,7 +4,7 @@ use Rattle.std.proofs.lemmas.List.{take_rest, length-drop, drop-drop}
 use Rattle.std.proofs.lemmas.Bool.{le-ltb, eq-eqb, eqb-true}
 use Rattle.field.specs.Laws.{Arithmetic}
 use Rattle.shape.specs.declared.Shape.{Shape}
-use Rattle.protocol.specs.declared.kind.Kind.{Kind}
+use Rattle.kind.specs.declared.Kind.{Kind}
 use Rattle.protocol.specs.Messages.{Bytes}
 use Rattle.fault.specs.declared.FrameFault.{FrameFault}
 use Rattle.layout.specs.Kinds.{digests, bytes}
@@ -40,10 +40,10 @@ sectioned_ok v w rest vec after payload is-vec is-after fits two count is-payloa
 -- What was answered did not fail a test.
 passed : {A E : Type 0} (b : Bool) (next : Result A E) (e : E) (a : A) → cond b next (Err e) ≡ Ok a → (b ≡ true) × (next ≡ Ok a)
 passed true next e a h = (refl, h)
-passed false next e a h = let z : ◌≡◌ {A = ℕ} 0 1 = cc in absurd (omega arith)
+passed false next e a h = cc
 
 spared : {A E : Type 0} (b : Bool) (next : Result A E) (e : E) (a : A) → cond b (Err e) next ≡ Ok a → (b ≡ false) × (next ≡ Ok a)
-spared true next e a h = let z : ◌≡◌ {A = ℕ} 0 1 = cc in absurd (omega arith)
+spared true next e a h = cc
 spared false next e a h = (refl, h)
 
 -- What the definition says of sections that are there.

@@ -3,12 +3,12 @@ use Rattle.std.specs.Prelude.{◌≡◌, ℕ, ◌/◌, ◌%◌, cond, [], ◌∷
 use Rattle.refusal.specs.declared.Refusal.{Refusal}
 use Rattle.refusal.specs.declared.Refusal.TheVariants.{Short}
 use Rattle.elements.specs.Numbers.{written}
-use Rattle.protocol.specs.declared.kind.Kind.{Kind}
-use Rattle.protocol.specs.declared.kind.Kind.TheVariants.{Send, Echo, Ready, Hash, Symbol}
+use Rattle.kind.specs.declared.Kind.{Kind}
+use Rattle.kind.specs.declared.Kind.TheVariants.{Send, Echo, Ready, Hash, Symbol}
 use Rattle.protocol.specs.Messages.{Bytes, Message, send, echo, ready, hash, symbol, kind, sender}
 use Rattle.frame.specs.declared.Frame.{Frame}
 use Rattle.frame.specs.declared.Frame.TheVariants.{Send as SendFrame, Echo as EchoFrame, Ready as ReadyFrame, Hash as HashFrame, Symbol as SymbolFrame}
-use Rattle.layout.specs.Kinds.{number}
+use Rattle.kind.specs.Numbers.{number}
 
 abbrev pub message : Frame → Message
 message (SendFrame v x) = send v.now x.now

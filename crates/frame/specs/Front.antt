@@ -1,9 +1,10 @@
 -- The front of a frame, whose sections are still to be read.
 use Rattle.std.specs.Prelude.{◌≡◌, ℕ, ◌≤◌, true, length, drop, Some, slice_index}
 use Rattle.shape.specs.declared.Shape.{Shape}
-use Rattle.protocol.specs.declared.kind.Kind.{Kind}
+use Rattle.kind.specs.declared.Kind.{Kind}
 use Rattle.protocol.specs.Messages.{Bytes}
-use Rattle.layout.specs.Kinds.{numbered, is_sender, digests}
+use Rattle.kind.specs.Numbers.{numbered}
+use Rattle.layout.specs.Kinds.{is_sender, digests}
 
 -- Kind, sender and count of digests of a frame are allowed, and something may follow them.
 pub record Front (s : Shape) (b : Bytes) (k : Kind) (i : ℕ) (rest : Bytes) : Type 0 where

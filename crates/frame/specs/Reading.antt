@@ -4,13 +4,14 @@ use Rattle.field.specs.Laws.{Arithmetic, width}
 use Rattle.shape.specs.declared.Shape.{Shape}
 use Rattle.elements.specs.Pieces.{piece}
 use Rattle.elements.specs.Element.{first_overrun}
-use Rattle.protocol.specs.declared.kind.Kind.{Kind}
+use Rattle.kind.specs.declared.Kind.{Kind}
 use Rattle.protocol.specs.Messages.{Bytes, Message, kind, sender}
 use Rattle.frame.specs.declared.Frame.{Frame}
 use Rattle.fault.specs.declared.FieldFault.{FieldFault}
 use Rattle.fault.specs.declared.FrameFault.{FrameFault}
 use Rattle.fault.specs.declared.FrameFault.TheVariants.{Torn, Field}
-use Rattle.layout.specs.Kinds.{numbered, is_sender, digests, bytes}
+use Rattle.kind.specs.Numbers.{numbered}
+use Rattle.layout.specs.Kinds.{is_sender, digests, bytes}
 use Rattle.frame.specs.Frames.{message, vector, payload, made, encode}
 
 -- The frame has its first m bytes, or ends too soon.

@@ -7,11 +7,11 @@ ghost use Rattle.frame.specs.Frames.{message, vector, payload};
 
 mod writing;
 
-use protocol::Kind;
+use kind::Kind;
 pub use writing::write;
 
 /// A frame, whose sections are parts of the bytes that it was read from.
-#[derive(Clone, Copy)]
+#[derive(Clone, Copy, Debug, PartialEq, Eq)]
 pub enum Frame<'a> {
     /// From the dealer: the commitment vector and the receiver's fragment.
     Send {
@@ -60,10 +60,10 @@ impl<'a> Frame<'a> {
     {
         match self {
             Frame::Send { .. } => 0,
-            Frame::Echo { sender, .. } => sender,
-            Frame::Ready { sender, .. } => sender,
-            Frame::Hash { sender, .. } => sender,
-            Frame::Symbol { sender, .. } => sender,
+            Frame::Echo { sender, .. }
+            | Frame::Ready { sender, .. }
+            | Frame::Hash { sender, .. }
+            | Frame::Symbol { sender, .. } => sender,
         }
     }
 
@@ -72,11 +72,9 @@ impl<'a> Frame<'a> {
         ensures { result.now ≡ vector (message self.entry) }
     {
         match self {
-            Frame::Send { vector, .. } => vector,
-            Frame::Echo { vector, .. } => vector,
-            Frame::Ready { vector, .. } => vector,
-            Frame::Hash { .. } => &[],
-            Frame::Symbol { .. } => &[],
+            Frame::Send { vector, .. } | Frame::Echo { vector, .. } | Frame::Ready { vector, .. } =>
+                vector,
+            Frame::Hash { .. } | Frame::Symbol { .. } => &[],
         }
     }
 
@@ -85,11 +83,9 @@ impl<'a> Frame<'a> {
         ensures { result.now ≡ payload (message self.entry) }
     {
         match self {
-            Frame::Send { fragment, .. } => fragment,
-            Frame::Echo { .. } => &[],
-            Frame::Ready { .. } => &[],
+            Frame::Send { fragment, .. } | Frame::Symbol { fragment, .. } => fragment,
             Frame::Hash { share, .. } => share,
-            Frame::Symbol { fragment, .. } => fragment,
+            Frame::Echo { .. } | Frame::Ready { .. } => &[],
         }
     }
 }

@@ -1,47 +1,41 @@
 // Writing a frame.
 ghost use Rattle.std.specs.Prelude.{◌≡◌, ◌+◌, ◌≤◌, ◌++◌, length, drop, Ok, nat_le};
-ghost use Rattle.elements.specs.Pieces.{put};
 ghost use Rattle.field.specs.Laws.{Arithmetic};
 ghost use Rattle.frame.specs.Frames.{message, framed, encode, Written};
 ghost use Rattle.frame.specs.Reading.{reads, Proper};
 
 use crate::Frame;
-use layout::kind_number;
+use layout::{COUNT_BYTES, DIGEST_BYTES};
 use refusal::Refusal;
 use shape::Shape;
 
-/// Writes a part into a place from `at` on.
-fn put_part(place: &mut [u8], at: usize, part: &[u8])
-    requires { at + length part.now ≤ length place.old }
-    ensures { place.new ≡ put place.old at part.now }
+/// Writes four parts, one after another, to the front of a place that has room for them.
+fn put_parts<'a>(
+    place: &mut [u8],
+    front: &'a [u8],
+    vector: &'a [u8],
+    count: &'a [u8],
+    payload: &'a [u8],
+)
+    requires { length front.now + length vector.now + length count.now + length payload.now ≤ length place.old }
+    ensures { let written = front.now ++ (vector.now ++ (count.now ++ payload.now)) in place.new ≡ written ++ drop (length written) place.old }
 {
-    let room = &mut place[at..at + part.len()];
-    room.copy_from_slice(part);
-}
-
-/// Writes the parts of a frame to the front of a place that has room for them.
-fn put_parts(place: &mut [u8], number: u8, sender: u8, vector: &[u8], payload: &[u8])
-    requires { 5 + length vector.now + length payload.now ≤ length place.old }
-    ensures { place.new ≡ framed number sender vector.now payload.now ++ drop (5 + length vector.now + length payload.now) place.old }
-{
-    let digests = vector.len();
-    let bytes = payload.len();
-    let front = [number, sender, (digests / 32 % 256) as u8];
-    put_part(place, 0, &front);
-    put_part(place, 3, vector);
-    let count = [(bytes / 256 % 256) as u8, (bytes % 256) as u8];
-    put_part(place, 3 + digests, &count);
-    put_part(place, 5 + digests, payload);
+    let mut at = 0;
+    for part in [front, vector, count, payload] {
+        place[at..at + part.len()].copy_from_slice(part);
+        at += part.len();
+    }
 }
 
 /// Whether a place has room for a frame with so many bytes of digests and after them.
 fn has_room(place: usize, digests: usize, bytes: usize) -> bool
     ensures { result ≡ nat_le (5 + digests + bytes) place }
 {
-    place >= 5 && place - 5 >= digests && place - 5 - digests >= bytes
+    place >= COUNT_BYTES && place - COUNT_BYTES >= digests && place - COUNT_BYTES - digests >= bytes
 }
 
 /// Writes a frame to the front of a place, and answers its length. Short, with the place as found, where it has no room for the frame.
+#[tactic(auto, using(crate::proofs::Turns::reads_back))]
 pub fn write(frame: Frame, place: &mut [u8]) -> Result<usize, Refusal>
     ensures is { Written (message frame.entry) place.old result place.new }
     ensures back { (R : Arithmetic) (s : Shape) → Proper R s (message frame.entry) → reads R s (encode (message frame.entry)) ≡ Ok (message frame.entry) }
@@ -51,12 +45,9 @@ pub fn write(frame: Frame, place: &mut [u8]) -> Result<usize, Refusal>
     if !has_room(place.len(), vector.len(), payload.len()) {
         return Err(Refusal::Short);
     }
-    put_parts(
-        place,
-        kind_number(frame.kind()),
-        frame.sender(),
-        vector,
-        payload,
-    );
-    Ok(5 + vector.len() + payload.len())
+    let [.., digests] = (vector.len() / DIGEST_BYTES).to_be_bytes();
+    let [.., high, low] = payload.len().to_be_bytes();
+    let front = [frame.kind().into(), frame.sender(), digests];
+    put_parts(place, &front, vector, &[high, low], payload);
+    Ok(COUNT_BYTES + vector.len() + payload.len())
 }

@@ -1,10 +1,11 @@
 -- The kinds of frame: number, sender and sections of each.
-use Rattle.std.specs.Prelude.{ℕ, ◌+◌, ◌*◌, Bool, true, false, cond, Some, None, Option, ◌==◌}
+use Rattle.std.specs.Prelude.{ℕ, ◌+◌, ◌*◌, Bool, true, false, cond, ◌==◌}
 use Rattle.field.specs.Laws.{Arithmetic, width}
 use Rattle.shape.specs.declared.Shape.{Shape}
 use Rattle.shape.specs.Lengths.{board_count, is_board, fragment_length, share_length}
-use Rattle.protocol.specs.declared.kind.Kind.{Kind}
-use Rattle.protocol.specs.declared.kind.Kind.TheVariants.{Send, Echo, Ready, Hash, Symbol}
+use Rattle.kind.specs.declared.Kind.{Kind}
+use Rattle.kind.specs.declared.Kind.TheVariants.{Send, Echo, Ready, Hash, Symbol}
+use Rattle.kind.specs.Numbers.{number}
 
 -- A row of the table of kinds: the number; whether the dealer sends it, and not a board; how many digests it has of n boards, and how many bytes after them, of S of a fragment and G of a share.
 pub record Row : Type 0 where
@@ -14,19 +15,11 @@ pub record Row : Type 0 where
   pub bytes : ℕ → ℕ → ℕ
 
 abbrev pub row : Kind → Row
-row Send = record { number = 1; by_dealer = true; digests = λ n. n; bytes = λ s g. s }
-row Echo = record { number = 2; by_dealer = false; digests = λ n. n; bytes = λ s g. 0 }
-row Ready = record { number = 3; by_dealer = false; digests = λ n. n; bytes = λ s g. 0 }
-row Hash = record { number = 4; by_dealer = false; digests = λ n. 0; bytes = λ s g. g }
-row Symbol = record { number = 5; by_dealer = false; digests = λ n. 0; bytes = λ s g. s }
-
-abbrev pub number : Kind → ℕ
-number k = (row k).number
-
--- The kind of a number.
-abbrev pub numbered : ℕ → Option Kind
-numbered k =
-    cond (k == 1) (Some Send) (cond (k == 2) (Some Echo) (cond (k == 3) (Some Ready) (cond (k == 4) (Some Hash) (cond (k == 5) (Some Symbol) None))))
+row Send = record { number = number Send; by_dealer = true; digests = λ n. n; bytes = λ s g. s }
+row Echo = record { number = number Echo; by_dealer = false; digests = λ n. n; bytes = λ s g. 0 }
+row Ready = record { number = number Ready; by_dealer = false; digests = λ n. n; bytes = λ s g. 0 }
+row Hash = record { number = number Hash; by_dealer = false; digests = λ n. 0; bytes = λ s g. g }
+row Symbol = record { number = number Symbol; by_dealer = false; digests = λ n. 0; bytes = λ s g. s }
 
 -- The party i sends frames of the kind k.
 abbrev pub is_sender : Shape → Kind → ℕ → Bool

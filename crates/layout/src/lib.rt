@@ -1,76 +1,85 @@
-//! The kinds of frame: their numbers, senders and lengths, read off one table.
+//! What frames of a kind look like: their senders and lengths, read off one table.
 #![tactic(auto)]
 
-ghost use Rattle.std.specs.Prelude.{◌≡◌, ◌≤◌};
-ghost use Rattle.layout.specs.Kinds.{number, numbered, is_sender, digests, bytes, frame_length};
+ghost use Rattle.std.specs.Prelude.{◌≡◌, ◌+◌, ◌*◌, ◌≤◌};
+ghost use Rattle.layout.specs.Kinds.{is_sender, digests, bytes, frame_length};
 
 use field::Field;
-use protocol::Kind;
+use kind::Kind;
 use shape::Shape;
 
-/// The number of a kind.
-pub fn kind_number(kind: Kind) -> u8
-    ensures { result ≡ number kind }
-{
-    match kind {
-        Kind::Send => 1,
-        Kind::Echo => 2,
-        Kind::Ready => 3,
-        Kind::Hash => 4,
-        Kind::Symbol => 5,
-    }
+/// The bytes of a digest.
+pub const DIGEST_BYTES: usize = 32;
+
+/// The bytes of a frame before its digests: its kind, its sender and how many digests it has.
+pub const FRONT_BYTES: usize = 3;
+
+/// The bytes of a frame that stand in no section: its front, and a count of two bytes.
+pub const COUNT_BYTES: usize = 5;
+
+/// The frames of one kind on a floor of one shape.
+#[derive(Clone, Copy)]
+pub struct Layout {
+    /// How many boards and rows there are.
+    pub shape: Shape,
+    /// The kind.
+    pub kind: Kind,
 }
 
-/// The kind of a number, or none where it is no kind's.
-pub fn kind_numbered(number: u8) -> Option<Kind>
-    ensures { result ≡ numbered number }
-{
-    match number {
-        1 => Some(Kind::Send),
-        2 => Some(Kind::Echo),
-        3 => Some(Kind::Ready),
-        4 => Some(Kind::Hash),
-        5 => Some(Kind::Symbol),
-        _ => None,
+impl Layout {
+    /// Whether a party sends such frames: the dealer, who is 0, or one of the boards.
+    pub fn is_sender(self, sender: u8) -> bool
+        ensures { result ≡ is_sender self.shape self.kind sender }
+    {
+        match self.kind {
+            Kind::Send => sender == 0,
+            _ => (1..=self.shape.boards()).contains(&usize::from(sender)),
+        }
     }
-}
 
-/// Whether a party sends frames of a kind: the dealer, who is 0, or one of the boards.
-pub fn sends(shape: Shape, kind: Kind, sender: u8) -> bool
-    ensures { result ≡ is_sender shape kind sender }
-{
-    match kind {
-        Kind::Send => sender == 0,
-        _ => 1 <= sender && usize::from(sender) <= shape.boards(),
+    /// How many digests such a frame has.
+    pub fn digests(self) -> usize
+        ensures is { result ≡ digests self.shape self.kind }
+        ensures few { result ≤ 16 }
+    {
+        match self.kind {
+            Kind::Send | Kind::Echo | Kind::Ready => self.shape.boards(),
+            Kind::Hash | Kind::Symbol => 0,
+        }
     }
-}
 
-/// How many digests a frame of a kind has.
-pub fn digest_count(shape: Shape, kind: Kind) -> usize
-    ensures is { result ≡ digests shape kind }
-    ensures few { result ≤ 16 }
-{
-    match kind {
-        Kind::Send | Kind::Echo | Kind::Ready => shape.boards(),
-        Kind::Hash | Kind::Symbol => 0,
+    /// How many bytes its digests have.
+    pub fn vector_bytes(self) -> usize
+        ensures is { result ≡ 32 * digests self.shape self.kind }
+        ensures few { result ≤ 512 }
+    {
+        DIGEST_BYTES * self.digests()
     }
-}
 
-/// How many bytes a frame of a kind has after its digests.
-pub fn payload_bytes<F: Field>(shape: Shape, kind: Kind) -> usize
-    ensures is { result ≡ bytes F.arithmetic shape kind }
-    ensures few { result ≤ 1024 }
-{
-    match kind {
-        Kind::Send | Kind::Symbol => shape.fragment_bytes::<F>(),
-        Kind::Echo | Kind::Ready => 0,
-        Kind::Hash => shape.share_bytes::<F>(),
+    /// How many bytes it has after its digests.
+    pub fn payload_bytes<F: Field>(self) -> usize
+        ensures is { result ≡ bytes F.arithmetic self.shape self.kind }
+        ensures few { result ≤ 1024 }
+    {
+        match self.kind {
+            Kind::Send | Kind::Symbol => self.shape.fragment_bytes::<F>(),
+            Kind::Echo | Kind::Ready => 0,
+            Kind::Hash => self.shape.share_bytes::<F>(),
+        }
     }
-}
 
-/// The length of a frame of a kind.
-pub fn frame_bytes<F: Field>(shape: Shape, kind: Kind) -> usize
-    ensures { result ≡ frame_length F.arithmetic shape kind }
-{
-    5 + 32 * digest_count(shape, kind) + payload_bytes::<F>(shape, kind)
+    /// Where in it the bytes after its digests begin.
+    pub fn payload_start(self) -> usize
+        ensures is { result ≡ 5 + 32 * digests self.shape self.kind }
+        ensures few { result ≤ 517 }
+    {
+        COUNT_BYTES + self.vector_bytes()
+    }
+
+    /// Its length.
+    pub fn frame_bytes<F: Field>(self) -> usize
+        ensures { result ≡ frame_length F.arithmetic self.shape self.kind }
+    {
+        self.payload_start() + self.payload_bytes::<F>()
+    }
 }

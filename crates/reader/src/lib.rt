@@ -1,7 +1,7 @@
 //! Reading frames: the layout first, and then the elements.
 #![tactic(auto)]
 
-ghost use Rattle.std.specs.Prelude.{◌≡◌, ◌+◌, ◌^◌, ◌<◌, ◌≤◌, length};
+ghost use Rattle.std.specs.Prelude.{◌≡◌, ◌+◌, ◌^◌, ◌<◌, length};
 ghost use Rattle.frame.specs.Frames.{message, made};
 ghost use Rattle.frame.specs.Reading.{reads, told, WritesBack, checked, reads_checked};
 ghost use Rattle.reader.specs.Stages.{Fronts, Sections};
@@ -10,62 +10,62 @@ use elements::{overrun, piece_at};
 use fault::{FieldFault, FrameFault};
 use field::Field;
 use frame::Frame;
-use layout::{digest_count, kind_numbered, payload_bytes, sends};
-use protocol::Kind;
+use kind::Kind;
+use layout::{FRONT_BYTES, Layout};
 use shape::Shape;
+use std::cmp::Ordering;
 
-/// Kind and sender of a frame, and what follows its count of digests.
-fn front(shape: Shape, frame: &[u8]) -> Result<(Kind, u8, &[u8]), FrameFault>
+/// Layout and sender of a frame, and what follows its count of digests.
+fn front(shape: Shape, frame: &[u8]) -> Result<(Layout, u8, &[u8]), FrameFault>
     ensures { Fronts shape frame.now result }
 {
     let ended = FrameFault::Torn { place: frame.len() };
     let [number, rest @ ..] = frame else {
         return Err(ended);
     };
-    let Some(kind) = kind_numbered(*number) else {
-        return Err(FrameFault::Torn { place: 0 });
-    };
+    let kind = Kind::try_from(*number).map_err(|_| FrameFault::Torn { place: 0 })?;
+    let layout = Layout { shape, kind };
     let [sender, rest @ ..] = rest else {
         return Err(ended);
     };
-    if !sends(shape, kind, *sender) {
+    if !layout.is_sender(*sender) {
         return Err(FrameFault::Torn { place: 1 });
     }
-    let [count, rest @ ..] = rest else {
+    let [digests, rest @ ..] = rest else {
         return Err(ended);
     };
-    if usize::from(*count) != digest_count(shape, kind) {
+    if usize::from(*digests) != layout.digests() {
         return Err(FrameFault::Torn { place: 2 });
     }
-    Ok((kind, *sender, rest))
+    Ok((layout, *sender, rest))
 }
 
-/// The sections of a frame, from what follows its count of digests: `digests` bytes, a count of two bytes, which has to be `bytes`, that many bytes, and nothing more.
-fn sections(rest: &[u8], digests: usize, bytes: usize) -> Result<(&[u8], &[u8]), FrameFault>
-    requires { (digests ≤ 512) × ((bytes ≤ 1024) × (length rest.now + 3 < 2 ^ 64)) }
-    ensures { Sections digests bytes rest.now result }
+/// The sections of a frame, from what follows its count of digests: the digests, a count of two bytes, as many bytes, and nothing more.
+fn sections<F: Field>(layout: Layout, rest: &[u8]) -> Result<(&[u8], &[u8]), FrameFault>
+    requires { length rest.now + 3 < 2 ^ 64 }
+    ensures { Sections F.arithmetic layout rest.now result }
 {
     let ended = FrameFault::Torn {
-        place: 3 + rest.len(),
+        place: FRONT_BYTES + rest.len(),
     };
-    let Some((vector, rest)) = rest.split_at_checked(digests) else {
-        return Err(ended);
-    };
+    let (vector, rest) = rest
+        .split_at_checked(layout.vector_bytes())
+        .ok_or(ended)?;
     let [high, low, payload @ ..] = rest else {
         return Err(ended);
     };
-    if 256 * usize::from(*high) + usize::from(*low) != bytes {
-        return Err(FrameFault::Torn { place: 3 + digests });
-    }
-    if payload.len() < bytes {
-        return Err(ended);
-    }
-    if payload.len() > bytes {
+    if usize::from(u16::from_be_bytes([*high, *low])) != layout.payload_bytes::<F>() {
         return Err(FrameFault::Torn {
-            place: 5 + digests + bytes,
+            place: FRONT_BYTES + vector.len(),
         });
     }
-    Ok((vector, payload))
+    match payload.len().cmp(&layout.payload_bytes::<F>()) {
+        Ordering::Less => Err(ended),
+        Ordering::Equal => Ok((vector, payload)),
+        Ordering::Greater => Err(FrameFault::Torn {
+            place: layout.frame_bytes::<F>(),
+        }),
+    }
 }
 
 /// The frame of a kind from a sender, with these sections.
@@ -95,22 +95,25 @@ pub fn read<F: Field>(shape: Shape, frame: &[u8]) -> Result<Frame, FrameFault>
     ensures is { told result ≡ reads F.arithmetic shape frame.now }
     ensures back { WritesBack result frame.now }
 {
-    let (kind, sender, rest) = front(shape, frame)?;
-    let digests = 32 * digest_count(shape, kind);
-    let (vector, payload) = sections(rest, digests, payload_bytes::<F>(shape, kind))?;
-    Ok(frame_of(kind, sender, vector, payload))
+    let (layout, sender, rest) = front(shape, frame)?;
+    let (vector, payload) = sections::<F>(layout, rest)?;
+    Ok(frame_of(layout.kind, sender, vector, payload))
 }
 
 /// Checks that the elements of a frame are codes.
+#[tactic(auto, using(elements::proofs::Overruns::overrun_is))]
 pub fn check<F: Field>(shape: Shape, frame: Frame) -> Result<(), FieldFault>
     ensures { result ≡ checked F.arithmetic shape (message frame.entry) }
 {
-    let kind = frame.kind();
-    let section = piece_at(frame.payload(), payload_bytes::<F>(shape, kind), 0);
+    let layout = Layout {
+        shape,
+        kind: frame.kind(),
+    };
+    let section = piece_at(frame.payload(), layout.payload_bytes::<F>(), 0);
     match overrun::<F>(section) {
         None => Ok(()),
         Some(i) => Err(FieldFault {
-            place: 5 + 32 * digest_count(shape, kind) + i * F::WIDTH,
+            place: layout.payload_start() + i * F::WIDTH,
         }),
     }
 }

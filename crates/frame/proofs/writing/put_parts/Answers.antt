@@ -1,10 +1,8 @@
-use Rattle.std.proofs.Common.{◌/◌, ◌%◌, [], ◌∷◌, length, refl}
-use Rattle.frame.proofs.Turns.{put_four}
+use Rattle.std.proofs.Common.{◌∷◌, [], refl, arith}
+use Rattle.frame.proofs.Parts.{put_more}
 use Rattle.frame.proofs.writing.put_parts.Goals as goal
 
-pub returns : goal.returns
-returns c =
-    let v = c.args.vector.now in
-    let x = c.args.payload.now in
-    put_four c.args.place.now (c.args.number ∷ (c.args.sender ∷ ((length v / 32) % 256 ∷ []))) v ((length x / 256) % 256 ∷ (length x % 256 ∷ [])) x _ _ _ _ refl refl
-    c.put_part.ensures c.put_part-2.ensures c.put_part-3.ensures c.put_part-4.ensures
+pub loop-part-preserved : goal.loop-part-preserved
+loop-part-preserved c =
+    put_more c.args.place.now c.loop-part.place c.copy_from_slice.new.self (c.args.front ∷ c.args.vector ∷ c.args.count ∷ c.args.payload ∷ []) c.loop-part.part-index c.loop-part.at _ _ _
+    c.loop-part-test.true c.loop-part.invariant refl (omega arith) c.copy_from_slice.ensures.after
