@@ -1,9 +1,10 @@
 -- Parts written to a place, one after another.
-use Rattle.std.proofs.Common.{◌≡◌, ℕ, ◌+◌, ◌<◌, List, [], ◌++◌, length, get_or, take, drop, sym, ap, ◌∙◌, ap₂, subst, arith}
+use Rattle.std.proofs.Common.{◌≡◌, ℕ, ◌+◌, ◌<◌, List, [], ◌++◌, length, get_or, take, drop, sym, ap, ◌∙◌, arith}
 use Rattle.std.specs.Borrow.{Bor}
 use Rattle.std.specs.List.{flat_map}
 use borrow.Rule.Slice.PartMut.{put_mid}
-use Rattle.std.proofs.lemmas.List.{append_assoc, length-append, take_at, drop_at, drop-drop, take_more, flat_map_more}
+use Rattle.std.proofs.lemmas.List.{take_more, flat_map_more}
+use Rattle.std.proofs.lemmas.Grind.{common_steps}
 use Rattle.protocol.specs.Messages.{Bytes}
 
 -- The parts, one after another.
@@ -22,11 +23,4 @@ put_more was place lent parts i at next k none l b n m e =
     let front = joined (take i parts) in
     let more : front ++ lent ≡ joined (take (i + 1) parts) =
     ap (λ p. front ++ p) e ∙ flat_map_more (λ part. part.now) [] (take i parts) (get_or parts i none) ∙ ap joined (sym (take_more parts i none l)) in
-    let size : length lent ≡ k = ap length e ∙ sym m in
-    let long : next ≡ length (front ++ lent) = omega (arith, length-append front lent, b.0) in
-    let place_is : put_mid at k place lent ≡ (front ++ lent) ++ drop next was =
-    ap (λ p. put_mid at k p lent) b.1
-    ∙ ap₂ (λ u v. u ++ (lent ++ drop k v)) (take_at front (drop (length front) was) at (sym b.0)) (drop_at front (drop (length front) was) at (sym b.0))
-    ∙ ap (λ y. front ++ (lent ++ y)) (drop-drop k (length front) was ∙ ap (λ a. drop a was) (omega (arith, b.0)))
-    ∙ sym (append_assoc front lent (drop next was)) in
-    subst (λ w. Begins was w next (put_mid at k place lent)) more (long, place_is ∙ ap (λ m. (front ++ lent) ++ drop m was) long)
+    grind (arith, common_steps)

@@ -48,9 +48,7 @@ fn sections<F: Field>(layout: Layout, rest: &[u8]) -> Result<(&[u8], &[u8]), Fra
     let ended = FrameFault::Torn {
         place: FRONT_BYTES + rest.len(),
     };
-    let (vector, rest) = rest
-        .split_at_checked(layout.vector_bytes())
-        .ok_or(ended)?;
+    let (vector, rest) = rest.split_at_checked(layout.vector_bytes()).ok_or(ended)?;
     let [high, low, payload @ ..] = rest else {
         return Err(ended);
     };
