@@ -54,49 +54,6 @@ tail_split k n L =
     ap (λ v. 0x80 ∷ (v ++ L)) (sym (replicate-append-replicate k n 0))
     ∙ ap (λ v. 0x80 ∷ v) (append_assoc (replicate k 0) (replicate n 0) L)
 
-module _ (m rest L : List ℕ) (long : length L ≡ 8) (is : rest ≡ drop (64 * (length m / 64)) m) (left : length rest ≡ length m % 64) where
-  -- the padding fits into the block of the rest
-  one_block :
-      length rest < 56 → (z : ℕ) → z ≡ (119 - length m % 64) % 64
-      → hashed (length (m ++ tail z L) / 64) (m ++ tail z L) ≡ compress (hashed (length m / 64) m) (take 56 (marked rest (63 - length rest)) ++ L)
-  unfolding tail
-  one_block few z zeros =
-      let q = length m / 64 in
-      let t_long = length_tail z L long in
-      let full : length m + length (tail z L) ≡ 64 * (q + 1) = omega arith in
-      let count : length (m ++ tail z L) / 64 ≡ q + 1 = omega (arith, length-append m (tail z L)) in
-      let z_is : 63 - length rest ≡ z + 8 = omega arith in
-      let last : take 56 (marked rest (63 - length rest)) ++ L ≡ drop (64 * q) m ++ tail z L =
-      ap (λ k. take 56 (marked rest k) ++ L) z_is
-      ∙ ap (λ v. v ++ L) (front_of rest z (omega arith))
-      ∙ append_assoc rest (0x80 ∷ replicate z 0) L
-      ∙ ap (λ v. v ++ tail z L) is in
-      ap (λ k. hashed k (m ++ tail z L)) count
-      ∙ hashed_tail q m (tail z L) (omega arith) full
-      ∙ ap (compress (hashed q m)) (sym last)
-
-  -- the padding runs over into a block more
-  two_blocks :
-      56 ≤ length rest → (z : ℕ) → z ≡ (119 - length m % 64) % 64
-      → hashed (length (m ++ tail z L) / 64) (m ++ tail z L)
-      ≡ compress (compress (hashed (length m / 64) m) (marked rest (63 - length rest))) (replicate 56 0 ++ L)
-  unfolding tail
-  two_blocks many z zeros =
-      let q = length m / 64 in
-      let t_long = length_tail z L long in
-      let count : length (m ++ tail z L) / 64 ≡ q + 2 = omega (arith, length-append m (tail z L)) in
-      let k = 63 - length rest in
-      let z_is : z ≡ k + 56 = omega arith in
-      let front : List ℕ = 0x80 ∷ replicate k 0 in
-      let back : List ℕ = replicate 56 0 ++ L in
-      let front_long : length front ≡ k + 1 = simp length-replicate (omega arith) in
-      let back_long : length back ≡ 64 = length-append (replicate 56 0) L ∙ omega arith in
-      let split : tail z L ≡ front ++ back = ap (λ j. tail j L) z_is ∙ tail_split k 56 L in
-      ap (λ j. hashed j (m ++ tail z L)) count
-      ∙ ap (λ v. hashed (q + 2) (m ++ v)) split
-      ∙ hashed_tails q m front back (omega arith) (omega arith) back_long
-      ∙ ap (λ v. compress (compress (hashed q m) (v ++ front)) back) (sym is)
-
 module _ (m rest : List ℕ) (is : rest ≡ drop (length m / 64 * 64) m) (left : length rest ≡ length m % 64) where
   -- the rest, as the blocks of the standard are counted
   is_64 : rest ≡ drop (64 * (length m / 64)) m
@@ -109,9 +66,21 @@ module _ (m rest : List ℕ) (is : rest ≡ drop (length m / 64 * 64) m) (left :
       → compress (hashed (length m / 64) m) blk ≡ hashed (length (padded m) / 64) (padded m)
   unfolding tail padded
   finish_one few last blk e f =
+      let q = length m / 64 in
       let L = length_bytes ((length m * 8) % 2 ^ 64) in
-      ap (compress (hashed (length m / 64) m)) (f ∙ ap (λ v. take 56 v ++ L) e)
-      ∙ sym (one_block m rest L refl is_64 left few ((119 - length m % 64) % 64) refl)
+      let z = (119 - length m % 64) % 64 in
+      let t_long = length_tail z L refl in
+      let count : length (m ++ tail z L) / 64 ≡ q + 1 = omega (arith, length-append m (tail z L)) in
+      let z_is : 63 - length rest ≡ z + 8 = omega arith in
+      let block : blk ≡ drop (64 * q) m ++ tail z L =
+      f
+      ∙ ap (λ v. take 56 v ++ L) e
+      ∙ ap (λ k. take 56 (marked rest k) ++ L) z_is
+      ∙ ap (λ v. v ++ L) (front_of rest z (omega arith))
+      ∙ append_assoc rest (0x80 ∷ replicate z 0) L
+      ∙ ap (λ v. v ++ tail z L) is_64 in
+      ap (compress (hashed q m)) block
+      ∙ sym (ap (λ k. hashed k (m ++ tail z L)) count ∙ hashed_tail q m (tail z L) (omega arith) (omega arith))
 
   -- `finish` where it does not
   pub finish_two :
@@ -120,7 +89,16 @@ module _ (m rest : List ℕ) (is : rest ≡ drop (length m / 64 * 64) m) (left :
       → compress (compress (hashed (length m / 64) m) last) blk ≡ hashed (length (padded m) / 64) (padded m)
   unfolding tail padded
   finish_two many last blk e f =
+      let q = length m / 64 in
       let L = length_bytes ((length m * 8) % 2 ^ 64) in
-      ap (λ v. compress (compress (hashed (length m / 64) m) v) blk) e
-      ∙ ap (compress (compress (hashed (length m / 64) m) (marked rest (63 - length rest)))) f
-      ∙ sym (two_blocks m rest L refl is_64 left many ((119 - length m % 64) % 64) refl)
+      let z = (119 - length m % 64) % 64 in
+      let k = 63 - length rest in
+      let t_long = length_tail z L refl in
+      let count : length (m ++ tail z L) / 64 ≡ q + 2 = omega (arith, length-append m (tail z L)) in
+      let z_is : z ≡ k + 56 = omega arith in
+      let front : List ℕ = 0x80 ∷ replicate k 0 in
+      let front_long : length front ≡ k + 1 = simp length-replicate (omega arith) in
+      let split : tail z L ≡ front ++ (replicate 56 0 ++ L) = ap (λ j. tail j L) z_is ∙ tail_split k 56 L in
+      ap (λ v. compress (compress (hashed q m) v) blk) (e ∙ ap (λ v. v ++ front) is_64)
+      ∙ ap (compress (compress (hashed q m) (drop (64 * q) m ++ front))) f
+      ∙ sym (ap (λ j. hashed j (m ++ tail z L)) count ∙ ap (λ v. hashed (q + 2) (m ++ v)) split ∙ hashed_tails q m front (replicate 56 0 ++ L) (omega arith) (omega arith) refl)
