@@ -2,7 +2,6 @@ pub mod Tried
 pub mod Encoded
 pub mod Sizes
 pub mod Decoded
-pub mod Fits
 pub mod Selected
 pub mod Rows
 pub mod Undone

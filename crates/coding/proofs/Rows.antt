@@ -12,7 +12,7 @@ use Rattle.elements.specs.Pieces.{laid}
 use Rattle.elements.specs.Element.{element, Elements}
 use Rattle.coding.specs.Code.{decoded}
 use Rattle.hash.specs.Bytes.{Bytes}
-use Rattle.coding.specs.Decoding.{held, points_of, row_coefficients, coefficients, Ready}
+use Rattle.coding.specs.Decoding.{held, points_of, row_coefficients, coefficients, are_chosen, Sound}
 use Rattle.polynomial.proofs.Newton.{interpolated-length}
 use Rattle.elements.proofs.Pieces.{laid_none, laid_more, piece-laid}
 use Rattle.coding.proofs.Selected.{chosen}
@@ -38,19 +38,20 @@ there None P h = absurd h
 at : {A : Type 0} (r : Option A) (P : A → Type 0) → IsSomeAnd r P → (x : A) → r ≡ Some x → P x
 at r P h x e = subst (λ o. IsSomeAnd o P) e h
 
-module _ (R : Arithmetic) (inv : ℕ → ℕ) (L : RingLaws R) (s : Shape) (fragments js : List ℕ) (b : Basis) (ready : Ready R inv s fragments js b) (i : ℕ) (h : i < s.rows)
+module _ (R : Arithmetic) (inv : ℕ → ℕ) (L : RingLaws R) (s : Shape) (fragments js : List ℕ) (b : Basis)
+    (yes! : are_chosen s js ≡ true) (sound : Sound R s fragments js) (based : BasisOf R inv js b) (i : ℕ) (h : i < s.rows)
     (ps : List (ℕ × ℕ)) (is : ps ≡ points_of R s fragments js i) (r : Option (List ℕ)) (through : Through R inv b ps r) where
   values_is : values_of ps ≡ map (λ j. element R (held R s fragments j) i) js
   values_is = ap values_of is ∙ values_points (λ j. element R (held R s fragments j) i) js
 
   solved : IsSomeAnd r (Solves R inv js (values_of ps))
   solved =
-      let c = chosen s js ready.chosen in
-      through js ready.basis (ap codes_of is ∙ codes_points (λ j. element R (held R s fragments j) i) js)
-      (boards_codes R L s.faults js s.faults_most c.boards) c.distinct
+      let c = chosen s js yes! in
+      through js based (ap codes_of is ∙ codes_points (λ j. element R (held R s fragments j) i) js)
+      (boards_codes R L s.faults js s.range.1 c.boards) c.distinct
       (subst (Codes R) (sym values_is)
       (All-map (λ a. a < R.size) (λ j. element R (held R s fragments j) i) js
-      (All-weaker (λ j. Elements R (held R s fragments j) s.rows) (λ j. element R (held R s fragments j) i < R.size) (λ j e. e i h) js ready.sound)))
+      (All-weaker (λ j. Elements R (held R s fragments j) s.rows) (λ j. element R (held R s fragments j) i < R.size) (λ j e. e i h) js sound)))
 
   pub row_there : is_some r ≡ true
   row_there = there r (Solves R inv js (values_of ps)) solved

@@ -1,5 +1,5 @@
 -- The chosen boards and their fragments.
-use Rattle.std.proofs.Common.{◌≡◌, ℕ, ◌+◌, ◌-◌, ◌*◌, ◌/◌, ◌<◌, ◌≤◌, true, false, cond, ◌&&◌, eqb, ltb, leb, List, [], ◌∷◌, ◌++◌, length, get_or, take, drop, set, Some, None, Decides, Option, sym, refl, ap, ◌∙◌, subst, ap₂, arith}
+use Rattle.std.proofs.Common.{◌≡◌, ℕ, ◌+◌, ◌-◌, ◌*◌, ◌/◌, ◌<◌, ◌≤◌, true, false, cond, ◌&&◌, eqb, ltb, leb, List, [], ◌∷◌, ◌++◌, length, get_or, take, drop, set, is_some, Some, None, Decides, Option, sym, refl, ap, ◌∙◌, subst, ap₂, arith}
 use Rattle.std.proofs.lemmas.Nat.{div-mul-add}
 use Rattle.std.proofs.ByRecursion.{All-get_or, All-from_get_or, All-more}
 use Rattle.std.proofs.lemmas.List.{length-drop, length-take-le, map_more, take_more_set}
@@ -53,8 +53,7 @@ module _ (s : Shape) (js : List ℕ) (yes! : are_chosen s js ≡ true) where
   pub chosen-admitted : (R : Arithmetic) → RingLaws R → admitted R js ≡ true
   chosen-admitted R L =
       let n = chosen_many in
-      let least = s.faults_least in
-      let most = s.faults_most in
+      let t = s.range in
       and_from (leb 1 (length js) && leb (length js) 6) (rising 0 R.size js)
       (and_from (leb 1 (length js)) (leb (length js) 6) (le-leb 1 (length js) (omega arith)) (le-leb (length js) 6 (omega arith)))
       (rising_wider 1 (board_count s.faults + 1) 0 R.size js (omega arith) (omega (arith, L.least)) parts.1)
@@ -101,13 +100,15 @@ module _ (R : Arithmetic) (s : Shape) (fragments : List ℕ) (long : length frag
       let code : element R x i < R.size = subst (λ y. element R y i < R.size) (sym e) (codes i (omega (arith, over.0, count x e))) in
       omega (arith, over.1))
 
+  -- An element of its fragment is read.
+  pub value_there : Sound R s fragments js → (i : ℕ) → i < s.rows → (x : List ℕ) → x ≡ held R s fragments (get_or js m 0) → (r : Option ℕ) →
+      r ≡ cond (ltb i (length x / width R) && ltb (element R x i) R.size) (Some (element R x i)) None → is_some r ≡ true
+  value_there sound i hi x e r is =
+      let code : element R x i < R.size = subst (λ y. element R y i < R.size) (sym e) (All-get_or (λ j. Elements R (held R s fragments j) s.rows) js m 0 h sound i hi) in
+      ap is_some
+      (is ∙ cond-true (ltb i (length x / width R) && ltb (element R x i) R.size) (Some (element R x i)) None
+      (and_from (ltb i (length x / width R)) (ltb (element R x i) R.size) (lt-ltb i (length x / width R) (omega (arith, count x e))) (lt-ltb (element R x i) R.size code)))
+
 -- The rows of as many bytes as boards are chosen fill the block.
 pub block_long : (s : Shape) (js : List ℕ) → are_chosen s js ≡ true → (block : List ℕ) → is_block s block ≡ true → length block ≡ s.rows * length js
 block_long s js yes! block e = eqb-true (length block) (block_length s.faults s.rows) e ∙ ap (λ k. s.rows * k) (sym (chosen_many s js yes!))
-
--- An element that a part has, and that is a code, is read.
-pub element_read : (R : Arithmetic) (x : List ℕ) (i : ℕ) (r : Option ℕ) → i < length x / width R → element R x i < R.size →
-    r ≡ cond (ltb i (length x / width R) && ltb (element R x i) R.size) (Some (element R x i)) None → r ≡ Some (element R x i)
-element_read R x i r h code is =
-    is ∙ cond-true (ltb i (length x / width R) && ltb (element R x i) R.size) (Some (element R x i)) None
-    (and_from (ltb i (length x / width R)) (ltb (element R x i) R.size) (lt-ltb i (length x / width R) h) (lt-ltb (element R x i) R.size code))

@@ -1,10 +1,9 @@
 -- What decoding fragments answers.
-use Rattle.std.specs.Prelude.{◌≡◌, ℕ, ◌+◌, ◌-◌, Bool, true, false, ◌&&◌, List, map, length, Ok, Err, Result, ◌==◌}
+use Rattle.std.specs.Prelude.{◌≡◌, ℕ, ◌+◌, ◌-◌, Bool, true, false, ◌&&◌, List, map, length, Ok, Err, Result, ◌==◌, codes}
 use Rattle.std.specs.List.{AllByRecursion}
 use Rattle.field.specs.Laws.{Arithmetic, width}
 use Rattle.coding.specs.declared.decoding.Undecodable.{Undecodable}
 use Rattle.coding.specs.declared.decoding.Undecodable.TheVariants.{Unfit, Overrun, Unreadable}
-use Rattle.polynomial.specs.declared.interpolation.Basis.{Basis}
 use Rattle.shape.specs.declared.Shape.{Shape}
 use Rattle.elements.specs.Pieces.{piece}
 use Rattle.polynomial.specs.Polynomial.{interpolated}
@@ -12,7 +11,7 @@ use Rattle.shape.specs.Lengths.{board_count, row_length, block_length, fragment_
 use Rattle.elements.specs.Element.{element, Elements}
 use Rattle.coding.specs.Code.{decoded}
 use Rattle.hash.specs.Bytes.{Bytes}
-use Rattle.polynomial.specs.Interpolation.{rising, BasisOf}
+use Rattle.polynomial.specs.Interpolation.{rising}
 use Rattle.coding.specs.Shaped.{is_block, fragments_length, fragment_of}
 
 -- t + 1 boards in rising order.
@@ -42,6 +41,12 @@ row_coefficients R inv s fragments js i = interpolated R inv js (map (λ j. elem
 abbrev pub coefficients : Arithmetic → (ℕ → ℕ) → Shape → List ℕ → List ℕ → List ℕ
 coefficients R inv s fragments js = decoded R inv s.rows js (held R s fragments)
 
+-- What is said of each refusal.
+abbrev pub reason : Undecodable → List ℕ
+reason Unfit = codes "a length or the boards do not fit"
+reason Overrun = codes "a fragment holds a number that the field does not have"
+reason Unreadable = codes "the fragments are those of no block"
+
 -- What holds of each answer; no two of these hold together.
 abbrev pub Decoding : Arithmetic → (ℕ → ℕ) → Shape → List ℕ → List ℕ → List ℕ → Result (Unit {0}) Undecodable → List ℕ → Type 0
 Decoding R inv s fragments js before (Ok u) after =
@@ -62,10 +67,3 @@ DecodingUndoesEncoding R s fragments js before r after =
 pub record Decodes (R : Arithmetic) (inv : ℕ → ℕ) (s : Shape) (fragments js before : List ℕ) (r : Result (Unit {0}) Undecodable) (after : List ℕ) : Type 0 where
   pub is : Decoding R inv s fragments js before r after
   pub undoes : DecodingUndoesEncoding R s fragments js before r after
-
--- What the steps of decoding start from: all that was tested, and the basis at the chosen boards.
-pub record Ready (R : Arithmetic) (inv : ℕ → ℕ) (s : Shape) (fragments js : List ℕ) (b : Basis) : Type 0 where
-  pub fragments_long : length fragments ≡ fragments_length R s
-  pub chosen : are_chosen s js ≡ true
-  pub basis : BasisOf R inv js b
-  pub sound : Sound R s fragments js

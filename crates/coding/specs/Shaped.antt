@@ -1,10 +1,12 @@
 -- What the calls on a shape ask of their arguments, and what they write.
-use Rattle.std.specs.Prelude.{ℕ, ◌+◌, ◌*◌, Bool, ◌&&◌, List, length, ◌==◌, nat_le}
+use Rattle.std.specs.Prelude.{ℕ, ◌+◌, ◌*◌, Bool, ◌&&◌, if◌then◌else◌, List, length, Ok, Err, Result, ◌==◌, nat_le}
 use Rattle.field.specs.Laws.{Arithmetic, width}
 use Rattle.shape.specs.declared.Shape.{Shape}
 use Rattle.elements.specs.Pieces.{laid}
 use Rattle.shape.specs.Lengths.{is_board, board_count, block_length, fragment_length, vector_length, share_length}
 use Rattle.coding.specs.Code.{fragment, share}
+use Rattle.coding.specs.declared.encoding.Unencodable.{Unencodable}
+use Rattle.coding.specs.declared.encoding.Unencodable.TheVariants.{NoBoard, Length}
 
 -- The block has K bytes.
 abbrev pub is_block : Shape → List ℕ → Bool
@@ -25,6 +27,10 @@ share_fits R s vector j part = (is_board s.faults j && length vector == vector_l
 -- The block has K bytes, and the memory room for all fragments.
 abbrev pub fragments_fit : Arithmetic → Shape → List ℕ → List ℕ → Bool
 fragments_fit R s block memory = is_block s block && nat_le (fragments_length R s) (length memory)
+
+-- Ok where all fits. Else why not: that there is no such board goes before a length.
+abbrev pub answered : Bool → Bool → Result (Unit {0}) Unencodable
+answered fits there = if fits then Ok tt else Err (if there then Length else NoBoard)
 
 -- The fragment and the share of board j.
 abbrev pub fragment_of : Arithmetic → Shape → List ℕ → ℕ → List ℕ

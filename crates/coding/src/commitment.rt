@@ -1,8 +1,10 @@
 // The commitment vector, by which a board's fragment is told from any other.
-ghost use Rattle.std.specs.Prelude.{◌≡◌, if◌then◌else◌};
+ghost use Rattle.std.specs.Prelude.{◌≡◌, true, OnOk, OnErr};
 ghost use Rattle.coding.specs.Commitment.{fragment_digest, vector_of, vector_fits};
+ghost use Rattle.coding.specs.Shaped.{answered};
 
-use crate::decoding::held_by;
+use crate::encoding::Unencodable;
+use crate::fragments::Fragments;
 use field::Field;
 use hash::Hash;
 use shape::Shape;
@@ -14,22 +16,24 @@ pub fn digest_of<D: Hash>(_board: u16, fragment: &[u8]) -> [u8; 32]
     D::digest(fragment)
 }
 
-/// Writes the commitment vector of the fragments of all boards. False, with the vector as found, where a length does not fit.
-pub fn commit<F: Field, D: Hash>(shape: Shape, fragments: &[u8], vector: &mut [u8]) -> bool
-    ensures answer { result ≡ vector_fits F.arithmetic shape fragments.now vector.old }
-    ensures vector { vector.new ≡ (if result then vector_of D.hashes F.arithmetic shape fragments.now else vector.old) }
+/// Writes the commitment vector of the fragments of all boards, and leaves the vector as found where a length does not fit.
+pub fn commit<F: Field, D: Hash>(
+    shape: Shape,
+    fragments: &[u8],
+    vector: &mut [u8],
+) -> Result<(), Unencodable>
+    ensures answer { result ≡ answered (vector_fits F.arithmetic shape fragments.now vector.old) true }
+    ensures vector { OnOk result (vector.new ≡ vector_of D.hashes F.arithmetic shape fragments.now) }
+    ensures kept { OnErr result (vector.new ≡ vector.old) }
 {
-    let count = shape.boards();
-    if fragments.len() != count * shape.fragment_bytes::<F>()
-        || vector.len() != shape.vector_bytes()
-    {
-        return false;
+    let held = Fragments::<F>::new(shape, fragments).ok_or(Unencodable::Length)?;
+    if vector.len() != shape.vector_bytes() {
+        return Err(Unencodable::Length);
     }
-    for i in 0..count {
+    for i in 0..shape.boards() {
         let board = i as u16 + 1;
-        let digest = digest_of::<D>(board, held_by::<F>(shape, fragments, board));
         let entry = &mut vector[i * 32..i * 32 + 32];
-        entry.copy_from_slice(&digest);
+        entry.copy_from_slice(&digest_of::<D>(board, held.of(board)));
     }
-    true
+    Ok(())
 }

@@ -47,9 +47,9 @@ pub(crate) fn keep<F: Field, D: Hash>(
     let mut fragments = vec![in heap; 0; shape.boards() * size]?;
     let mut vector = vec![in heap; 0; shape.vector_bytes()]?;
     let mut share = vec![in heap; 0; shape.share_bytes::<F>()]?;
-    let cut = encode_fragments::<F>(shape, block.as_slice(), fragments.as_mut_slice());
-    let committed = commit::<F, D>(shape, fragments.as_slice(), vector.as_mut_slice());
-    let shared = encode_share::<F>(shape, vector.as_slice(), 1, share.as_mut_slice());
+    let cut = encode_fragments::<F>(shape, block.as_slice(), fragments.as_mut_slice()).is_ok();
+    let committed = commit::<F, D>(shape, fragments.as_slice(), vector.as_mut_slice()).is_ok();
+    let shared = encode_share::<F>(shape, vector.as_slice(), 1, share.as_mut_slice()).is_ok();
     Ok(Kept {
         shape,
         size,

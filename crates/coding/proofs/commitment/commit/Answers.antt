@@ -21,19 +21,16 @@ loop-i-preserved g c =
     let n : i * 32 + 32 - i * 32 ≡ 32 = omega arith in
     laid_part (λ i. fragment_digest hash (i + 1) (held R s xs (i + 1))) 32 i (i * 32 + 32 - i * 32) c.args.vector.now c.loop-i.vector c.copy_from_slice.new.self
     (λ i. entry_long hash g.met.D.Hash.sound R s xs (λ k. omega (arith, c.type_inv.fragments k)) (i + 1)) (omega arith) n c.loop-i.invariant
-    (c.copy_from_slice.ensures.after ∙ c.digest_of-digest.ensures ∙ ap hash c.held_by.ensures)
+    (c.copy_from_slice.ensures.after ∙ c.digest_of.ensures ∙ ap hash (search rules))
 
-pub returns : goal.returns
-returns g c =
+pub returns-clause-vector : goal.returns-clause-vector
+returns-clause-vector g c =
     let R = g.F.Field.arithmetic in
     let hash = g.D.Hash.hashes in
     let s = c.args.shape in
     let xs = c.args.fragments.now in
-    let end : c.loop-i.i ≡ c.boards-count.result = omega arith in
-    record {
-      answer = search rules;
-      vector = c.loop-i.invariant
-          ∙ ap (λ l. laid (λ i. fragment_digest hash (i + 1) (held R s xs (i + 1))) c.loop-i.i ++ l) (drop_all (c.loop-i.i * 32) c.args.vector.now (omega arith))
-          ∙ append-nil (laid (λ i. fragment_digest hash (i + 1) (held R s xs (i + 1))) c.loop-i.i)
-          ∙ ap (laid (λ i. fragment_digest hash (i + 1) (held R s xs (i + 1)))) (end ∙ c.boards-count.ensures);
-    }
+    let end : c.loop-i.i ≡ c.boards-i-end.result = omega arith in
+    c.loop-i.invariant
+    ∙ ap (λ l. laid (λ i. fragment_digest hash (i + 1) (held R s xs (i + 1))) c.loop-i.i ++ l) (drop_all (c.loop-i.i * 32) c.args.vector.now (omega arith))
+    ∙ append-nil (laid (λ i. fragment_digest hash (i + 1) (held R s xs (i + 1))) c.loop-i.i)
+    ∙ ap (laid (λ i. fragment_digest hash (i + 1) (held R s xs (i + 1)))) (end ∙ c.boards-i-end.ensures)

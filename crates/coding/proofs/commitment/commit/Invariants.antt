@@ -6,4 +6,4 @@ use Rattle.coding.proofs.commitment.commit.Given as goal
 
 abbrev pub invariant-loop-i : goal.invariant-loop-i
 invariant-loop-i g l =
-    l.vector ≡ laid (λ i. fragment_digest g.D.Hash.hashes (i + 1) (held g.F.Field.arithmetic l.shape l.fragments (i + 1))) l.i ++ drop (l.i * 32) l.initial.vector
+    l.vector ≡ laid (λ i. fragment_digest g.D.Hash.hashes (i + 1) (held g.F.Field.arithmetic l.fn.shape l.fragments (i + 1))) l.i ++ drop (l.i * 32) l.initial.vector

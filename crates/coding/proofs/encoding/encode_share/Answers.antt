@@ -1,24 +1,25 @@
-use Rattle.std.proofs.Common.{rules}
+use Rattle.std.proofs.Common.{◌*◌, ap, ◌∙◌, arith}
+use Rattle.shape.specs.Lengths.{row_length, share_rows}
+use Rattle.coding.specs.Code.{coded}
 use Rattle.coding.proofs.Decoded.{shares_fix_vectors}
+use Rattle.coding.proofs.Encoded.{coded-filled, when_fit}
+use Rattle.coding.proofs.Sizes.{share_rows_few, board-code}
 use Rattle.coding.proofs.encoding.encode_share.Goals as goal
 
-pub returns-then-board-lt1 : goal.returns-then-board-lt1
-returns-then-board-lt1 g c = record {
-  answer = search rules;
-  part = search rules;
-  fixes = shares_fix_vectors g.F.Field.arithmetic g.F.Field.inverted g.met.F.Field.laws c.args.shape.faults c.args.shape.faults_most;
-}
+pub encode-requires : goal.encode-requires
+encode-requires g c = omega (arith, c.share_rows-rows.ensures, share_rows_few c.args.shape.faults c.args.shape.range.0 c.args.shape.range.1)
 
-pub returns-then-vector-vector_bytes : goal.returns-then-vector-vector_bytes
-returns-then-vector-vector_bytes g c = record {
-  answer = search rules;
-  part = search rules;
-  fixes = shares_fix_vectors g.F.Field.arithmetic g.F.Field.inverted g.met.F.Field.laws c.args.shape.faults c.args.shape.faults_most;
-}
+pub returns-clause-part : goal.returns-clause-part
+returns-clause-part g c =
+    let R = g.F.Field.arithmetic in
+    let t = c.args.shape.faults in
+    let v = c.args.vector.now in
+    when_fit _ _ _ _ c.encode.ensures.answer c.encode.ensures.part
+    (λ there made.
+    made
+    ∙ ap (λ q. coded R (row_length t) q v c.args.board) c.share_rows-rows.ensures
+    ∙ coded-filled R g.met.F.Field.laws.ring (row_length t) (share_rows t) (share_rows t * row_length t) v c.args.board
+    (board-code R g.met.F.Field.laws.ring t c.args.board c.args.shape.range.1 there))
 
-pub returns : goal.returns
-returns g c = record {
-  answer = search rules;
-  part = c.write_share.ensures;
-  fixes = shares_fix_vectors g.F.Field.arithmetic g.F.Field.inverted g.met.F.Field.laws c.args.shape.faults c.args.shape.faults_most;
-}
+pub returns-clause-fixes : goal.returns-clause-fixes
+returns-clause-fixes g c = shares_fix_vectors g.F.Field.arithmetic g.F.Field.inverted g.met.F.Field.laws c.args.shape.faults c.args.shape.range.1
