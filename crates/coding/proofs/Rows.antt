@@ -1,8 +1,11 @@
 -- The coefficients of a row, from the points of the chosen boards.
-use Rattle.std.proofs.Common.{◌≡◌, ℕ, ◌+◌, ◌-◌, ◌*◌, ◌<◌, true, false, List, [], ◌∷◌, map, length, take, drop, is_some, IsSomeAnd, Some, None, Option, sym, refl, ap, ◌∙◌, subst, arith, MatchOption}
+use Rattle.std.proofs.Common.{◌≡◌, ℕ, zero, suc, ◌*◌, ◌<◌, Bool, true, false, MatchBool, Decides, List, [], ◌∷◌, map, length, take, drop, is_some, IsSomeAnd, Some, None, Option, sym, refl, ap, ◌∙◌, subst, zero-add, arith, MatchOption}
 use Rattle.std.proofs.ByRecursion.{All-map, All-weaker, All-take, All-drop, All-append}
 use Rattle.std.proofs.lemmas.List.{length-map}
+use Rattle.std.proofs.lemmas.List.FromFn.{length-range_with_len, get_or-range_with_len}
+use Rattle.coding.proofs.Tried.{decided_not}
 use Rattle.std.proofs.lemmas.Bool.{some_since, both_ways}
+use Rattle.std.specs.List.{range_with_len, AllWithin, HoldsAt}
 use Rattle.field.specs.Laws.{Arithmetic, RingLaws}
 use Rattle.polynomial.specs.declared.interpolation.Basis.{Basis}
 use Rattle.polynomial.specs.Polynomial.{Codes, Distinct, interpolated}
@@ -10,11 +13,10 @@ use Rattle.polynomial.specs.Interpolation.{admitted, codes_of, values_of, BasisO
 use Rattle.shape.specs.declared.Shape.{Shape}
 use Rattle.elements.specs.Pieces.{laid}
 use Rattle.elements.specs.Element.{element, Elements}
-use Rattle.coding.specs.Code.{decoded}
 use Rattle.hash.specs.Bytes.{Bytes}
 use Rattle.coding.specs.Decoding.{held, points_of, row_coefficients, coefficients, are_chosen, Sound}
 use Rattle.polynomial.proofs.Newton.{interpolated-length}
-use Rattle.elements.proofs.Pieces.{laid_none, laid_more, piece-laid}
+use Rattle.elements.proofs.Pieces.{piece-laid}
 use Rattle.coding.proofs.Selected.{chosen}
 use Rattle.coding.proofs.Sizes.{boards_codes}
 
@@ -71,25 +73,29 @@ row-bytes R inv s fragments js i h all =
     subst Bytes (piece-laid row w s.rows i h (λ i h. row_long R inv s fragments js i))
     (All-take (λ b. b < 256) w (drop (i * w) (laid row s.rows)) (All-drop (λ b. b < 256) (i * w) (laid row s.rows) all))
 
--- One more row of bytes.
-pub rows_bytes_more : (R : Arithmetic) (inv : ℕ → ℕ) (s : Shape) (fragments js : List ℕ) (i : ℕ) →
-    Bytes (decoded R inv i js (held R s fragments)) → Bytes (row_coefficients R inv s fragments js i) → Bytes (decoded R inv (i + 1) js (held R s fragments))
-rows_bytes_more R inv s fragments js i before here =
-    let row : ℕ → List ℕ = row_coefficients R inv s fragments js in
-    subst Bytes (sym (laid_more row i)) (All-append (λ b. b < 256) (laid row i) (row i) before here)
+-- Rows that are bytes, each tried in turn, are bytes together.
+bytes_laid : (f : ℕ → List ℕ) (n : ℕ) → ((i : ℕ) → i < n → Bytes (f i)) → Bytes (laid f n)
+unfolding laid
+bytes_laid f zero each = tt
+bytes_laid f (suc n) each = All-append (λ b. b < 256) (laid f n) (f n) (bytes_laid f n (λ i h. each i (omega arith))) (each n (omega arith))
 
-pub rows_bytes_none : (R : Arithmetic) (inv : ℕ → ℕ) (s : Shape) (fragments js : List ℕ) → Bytes (decoded R inv 0 js (held R s fragments))
-rows_bytes_none R inv s fragments js = subst Bytes (sym (laid_none (row_coefficients R inv s fragments js))) tt
-
--- What interpolation of row i has in its first places.
-pub first_places : (R : Arithmetic) (inv : ℕ → ℕ) (s : Shape) (fragments js cs : List ℕ) (i : ℕ) →
-    take (length js) cs ≡ row_coefficients R inv s fragments js i → take (length js - 0) cs ≡ row_coefficients R inv s fragments js i
-first_places R inv s fragments js cs i e = let n : length js - 0 ≡ length js = omega arith in ap (λ k. take k cs) n ∙ e
+pub rows_decided : (R : Arithmetic) (inv : ℕ → ℕ) (s : Shape) (fragments js : List ℕ) (r : Bool) → let row : ℕ → List ℕ = row_coefficients R inv s fragments js in
+    let rows : List ℕ = range_with_len 0 s.rows in
+    MatchBool r (AllWithin (λ i. Bytes (row i)) rows 0 (length rows)) ((k : ℕ) × (k < length rows) × HoldsAt (λ i. Bytes (row i) → ⊥) rows k) → Decides r (Bytes (coefficients R inv s fragments js))
+rows_decided R inv s fragments js true all = (
+  (λ e.
+      bytes_laid (row_coefficients R inv s fragments js) s.rows
+      (λ i h.
+      let n : i < length (range_with_len 0 s.rows) = omega (arith, length-range_with_len 0 s.rows) in
+      subst (λ k. Bytes (row_coefficients R inv s fragments js k)) (get_or-range_with_len 0 s.rows i 0 h ∙ zero-add i) (all i 0 (omega arith) n))),
+  (λ b. refl),
+)
+rows_decided R inv s fragments js false one =
+    let h : one.0 < s.rows = omega (arith, one.1, length-range_with_len 0 s.rows) in
+    decided_not (Bytes (coefficients R inv s fragments js))
+    (λ all. one.2 0 (subst (λ k. Bytes (row_coefficients R inv s fragments js k)) (sym (get_or-range_with_len 0 s.rows one.0 0 h ∙ zero-add one.0)) (row-bytes R inv s fragments js one.0 h all)))
 
 module _ (R : Arithmetic) (inv : ℕ → ℕ) (xs : List ℕ) (r : Option Basis) (made : MatchOption r (admitted R xs ≡ false) (λ b. (admitted R xs ≡ true) × BasisOf R inv xs b)) (yes! : admitted R xs ≡ true) where
   -- There is a basis at codes that are admitted.
   pub basis_there : is_some r ≡ true
   basis_there = some_since r (admitted R xs ≡ false) (λ b. (admitted R xs ≡ true) × BasisOf R inv xs b) made (λ e. both_ways (admitted R xs) e yes!)
-
-  pub basis_is : (b : Basis) → r ≡ Some b → BasisOf R inv xs b
-  basis_is b e = (subst (λ o. MatchOption o (admitted R xs ≡ false) (λ b. (admitted R xs ≡ true) × BasisOf R inv xs b)) e made).1

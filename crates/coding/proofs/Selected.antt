@@ -1,20 +1,21 @@
 -- The chosen boards and their fragments.
-use Rattle.std.proofs.Common.{◌≡◌, ℕ, ◌+◌, ◌-◌, ◌*◌, ◌/◌, ◌<◌, ◌≤◌, true, false, cond, ◌&&◌, eqb, ltb, leb, List, [], ◌∷◌, ◌++◌, length, get_or, take, drop, set, is_some, Some, None, Decides, Option, sym, refl, ap, ◌∙◌, subst, ap₂, arith}
+use Rattle.std.proofs.Common.{◌≡◌, ℕ, ◌+◌, ◌-◌, ◌*◌, ◌/◌, ◌<◌, ◌≤◌, Bool, true, false, MatchBool, cond, ◌&&◌, eqb, ltb, leb, List, [], ◌∷◌, length, get_or, drop, is_some, Some, None, Decides, Option, sym, refl, ap, ◌∙◌, subst, arith}
 use Rattle.std.proofs.lemmas.Nat.{div-mul-add}
-use Rattle.std.proofs.ByRecursion.{All-get_or, All-from_get_or, All-more}
-use Rattle.std.proofs.lemmas.List.{length-drop, length-take-le, map_more, take_more_set}
+use Rattle.std.proofs.ByRecursion.{All-get_or, All-from_get_or}
+use Rattle.std.proofs.lemmas.List.{length-drop, length-take-le}
 use Rattle.std.proofs.lemmas.Bool.{and_parts, and_from, eqb-true, leb-true, ltb-true, le-leb, lt-ltb, cond-true}
+use Rattle.std.specs.List.{AllWithin, HoldsAt}
 use Rattle.field.specs.Laws.{Arithmetic, RingLaws, width}
 use Rattle.field.proofs.Widths.{width_least}
 use Rattle.shape.specs.declared.Shape.{Shape}
 use Rattle.shape.specs.Lengths.{board_count, row_length, block_length, fragment_length}
-use Rattle.elements.specs.Element.{element, Elements, FirstOverrun}
+use Rattle.elements.specs.Element.{element, Elements}
 use Rattle.coding.specs.Code.{Chosen}
 use Rattle.polynomial.specs.Interpolation.{rising, admitted}
-use Rattle.coding.specs.Decoding.{are_chosen, held, points_of, Sound}
+use Rattle.coding.specs.Decoding.{are_chosen, held, Sound}
 use Rattle.coding.specs.Shaped.{is_block, fragments_length}
 use Rattle.elements.proofs.Pieces.{piece_end}
-use Rattle.coding.proofs.Tried.{one_fails}
+use Rattle.coding.proofs.Tried.{decided_not}
 use Rattle.polynomial.proofs.Risen.{rising-from, rising_below, rising_distinct}
 
 -- A list that rises within bounds rises within wider ones.
@@ -73,41 +74,35 @@ module _ (R : Arithmetic) (s : Shape) (fragments : List ℕ) (long : length frag
       let e : length (held R s fragments j) ≡ s.rows * width R + 0 = omega (arith, held_long j low high) in
       ap (λ n. n / width R) e ∙ div-mul-add s.rows (width R) 0 (omega arith)
 
--- One more point.
-pub points_more : (R : Arithmetic) (s : Shape) (fragments js : List ℕ) (i k v : ℕ) (points : List (ℕ × ℕ)) → k < length js → k < length points →
-    take k points ≡ points_of R s fragments (take k js) i → v ≡ element R (held R s fragments (get_or js k 0)) i →
-    take (k + 1) (set points k (get_or js k 0, v)) ≡ points_of R s fragments (take (k + 1) js) i
-points_more R s fragments js i k v points hj hp before is =
-    take_more_set points k (get_or js k 0, v) hp
-    ∙ ap₂ (λ ps x. ps ++ ((get_or js k 0, x) ∷ [])) before is
-    ∙ sym (map_more (λ j. (j, element R (held R s fragments j) i)) js k 0 hj)
+module _ (R : Arithmetic) (s : Shape) (fragments : List ℕ) (long : length fragments ≡ fragments_length R s) (js : List ℕ) (yes! : are_chosen s js ≡ true) where
+  count : (m : ℕ) → m < length js → length (held R s fragments (get_or js m 0)) / width R ≡ s.rows
+  count m h = let b = chosen_at s js yes! m h in held_elements R s fragments long (get_or js m 0) b.0 b.1
 
-module _ (R : Arithmetic) (s : Shape) (fragments : List ℕ) (long : length fragments ≡ fragments_length R s) (js : List ℕ) (yes! : are_chosen s js ≡ true) (m : ℕ) (h : m < length js) where
-  count : (x : List ℕ) → x ≡ held R s fragments (get_or js m 0) → length x / width R ≡ s.rows
-  count x e = let b = chosen_at s js yes! m h in ap (λ x. length x / width R) e ∙ held_elements R s fragments long (get_or js m 0) b.0 b.1
-
-  -- The fragment of one more board has codes for elements.
-  pub sound_at : (x : List ℕ) → x ≡ held R s fragments (get_or js m 0) → Elements R x (length x / width R) → Sound R s fragments (take m js) → Sound R s fragments (take (m + 1) js)
-  sound_at x e codes before =
-      All-more (λ j. Elements R (held R s fragments j) s.rows) js m 0 h before
-      (λ i hi. subst (λ y. element R y i < R.size) e (codes i (omega (arith, count x e))))
-
-  -- An element that is not a code.
-  pub not_sound : (x : List ℕ) (i : ℕ) → x ≡ held R s fragments (get_or js m 0) → FirstOverrun R x (length x / width R) (Some i) → Decides false (Sound R s fragments js)
-  not_sound x i e over =
-      one_fails (λ j. Elements R (held R s fragments j) s.rows) js m h
-      (λ codes.
-      let code : element R x i < R.size = subst (λ y. element R y i < R.size) (sym e) (codes i (omega (arith, over.0, count x e))) in
-      omega (arith, over.1))
+  -- Fragments whose elements are codes, each tried in turn, are sound together.
+  pub sound_decided : (r : Bool) → let Coded : ℕ → Type 0 = λ j. Elements R (held R s fragments j) (length (held R s fragments j) / width R) in
+      MatchBool r (AllWithin Coded js 0 (length js)) ((k : ℕ) × (k < length js) × HoldsAt (λ j. Coded j → ⊥) js k) → Decides r (Sound R s fragments js)
+  sound_decided true all = (
+    (λ e.
+        All-from_get_or (λ j. Elements R (held R s fragments j) s.rows) js 0
+        (λ k h. subst (Elements R (held R s fragments (get_or js k 0))) (count k h) (all k 0 (omega arith) h))),
+    (λ p. refl),
+  )
+  sound_decided false one =
+      decided_not (Sound R s fragments js)
+      (λ all.
+      one.2 0
+      (subst (Elements R (held R s fragments (get_or js one.0 0))) (sym (count one.0 one.1))
+      (All-get_or (λ j. Elements R (held R s fragments j) s.rows) js one.0 0 one.1 all)))
 
   -- An element of its fragment is read.
-  pub value_there : Sound R s fragments js → (i : ℕ) → i < s.rows → (x : List ℕ) → x ≡ held R s fragments (get_or js m 0) → (r : Option ℕ) →
+  pub value_there : Sound R s fragments js → (m i : ℕ) → m < length js → i < s.rows → (x : List ℕ) → x ≡ held R s fragments (get_or js m 0) → (r : Option ℕ) →
       r ≡ cond (ltb i (length x / width R) && ltb (element R x i) R.size) (Some (element R x i)) None → is_some r ≡ true
-  value_there sound i hi x e r is =
+  value_there sound m i h hi x e r is =
       let code : element R x i < R.size = subst (λ y. element R y i < R.size) (sym e) (All-get_or (λ j. Elements R (held R s fragments j) s.rows) js m 0 h sound i hi) in
+      let n : length x / width R ≡ s.rows = ap (λ x. length x / width R) e ∙ count m h in
       ap is_some
       (is ∙ cond-true (ltb i (length x / width R) && ltb (element R x i) R.size) (Some (element R x i)) None
-      (and_from (ltb i (length x / width R)) (ltb (element R x i) R.size) (lt-ltb i (length x / width R) (omega (arith, count x e))) (lt-ltb (element R x i) R.size code)))
+      (and_from (ltb i (length x / width R)) (ltb (element R x i) R.size) (lt-ltb i (length x / width R) (omega arith)) (lt-ltb (element R x i) R.size code)))
 
 -- The rows of as many bytes as boards are chosen fill the block.
 pub block_long : (s : Shape) (js : List ℕ) → are_chosen s js ≡ true → (block : List ℕ) → is_block s block ≡ true → length block ≡ s.rows * length js

@@ -7,7 +7,7 @@ ghost use Rattle.coding.specs.Decoding.{are_chosen, coefficients, points_of, row
 ghost use Rattle.coding.specs.Shaped.{fragments_length, is_block};
 
 use crate::fragments::Fragments;
-use elements::{overrun, read_element};
+use elements::read_element;
 use field::Field;
 use polynomial::{Basis, rising};
 use shape::Shape;
@@ -40,12 +40,9 @@ impl<'a, F: Field> Chosen<'a, F> {
     fn holds_codes(&self) -> bool
         ensures { IsTrue result ↔ Sound F.arithmetic self.now.fragments.shape self.now.fragments.bytes.now self.now.boards.now }
     {
-        for board in self.boards {
-            if overrun::<F>(self.fragments.of(*board)).is_some() {
-                return false;
-            }
-        }
-        true
+        self.boards
+            .iter()
+            .all(|board| self.fragments.holds_codes(*board))
     }
 }
 
@@ -95,17 +92,21 @@ impl<'a, F: Field> Rows<'a, F> {
             .unwrap()
     }
 
+    /// Whether every coefficient of row `i` is a byte.
+    fn row_is_bytes(&self, i: usize) -> bool
+        requires { i < self.now.chosen.fragments.shape.rows }
+        ensures { IsTrue result ↔ Bytes (row_coefficients F.arithmetic F.inverted self.now.chosen.fragments.shape self.now.chosen.fragments.bytes.now self.now.chosen.boards.now i) }
+    {
+        self.row(i)[..self.chosen.boards.len()]
+            .iter()
+            .all(|code| *code <= 255)
+    }
+
     /// Whether every coefficient of every row is a byte.
     pub(crate) fn are_bytes(&self) -> bool
         ensures { IsTrue result ↔ Bytes (coefficients F.arithmetic F.inverted self.now.chosen.fragments.shape self.now.chosen.fragments.bytes.now self.now.chosen.boards.now) }
     {
-        let count = self.chosen.boards.len();
-        for i in 0..self.chosen.fragments.shape.rows {
-            if !are_bytes(&self.row(i)[..count]) {
-                return false;
-            }
-        }
-        true
+        (0..self.chosen.fragments.shape.rows).all(|i| self.row_is_bytes(i))
     }
 
     /// Writes the coefficients of every row, which are bytes, as a block.
@@ -121,13 +122,6 @@ impl<'a, F: Field> Rows<'a, F> {
             write_bytes(&row[..count], &mut block[from..from + count]);
         }
     }
-}
-
-/// Whether the codes are bytes.
-fn are_bytes(codes: &[u16]) -> bool
-    ensures { IsTrue result ↔ Bytes codes.now }
-{
-    codes.iter().all(|code| *code <= 255)
 }
 
 /// Writes codes that are bytes.

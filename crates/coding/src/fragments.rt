@@ -1,9 +1,11 @@
 // The fragments of all boards, as they stand in one memory.
-ghost use Rattle.std.specs.Prelude.{◌≡◌, ◌≤◌, length, ◌↔◌, IsSome, IfSome};
-ghost use Rattle.shape.specs.Lengths.{board_count};
+ghost use Rattle.std.specs.Prelude.{◌≡◌, ◌/◌, ◌↔◌, length, IsTrue, IsSome, IfSome};
+ghost use Rattle.field.specs.Laws.{width};
+ghost use Rattle.elements.specs.Element.{Elements};
 ghost use Rattle.coding.specs.Decoding.{held};
 ghost use Rattle.coding.specs.Shaped.{fragments_length};
 
+use elements::{overrun, piece_at};
 use field::Field;
 use shape::Shape;
 use std::marker::PhantomData;
@@ -36,12 +38,16 @@ impl<'a, F: Field> Fragments<'a, F> {
 
     /// The fragment of a board.
     pub(crate) fn of(&self, board: u16) -> &'a [u8]
-        requires least { 1 ≤ board }
-        requires most { board ≤ board_count self.now.shape.faults }
         ensures { result.now ≡ held F.arithmetic self.now.shape self.now.bytes.now board }
     {
         let size = self.shape.fragment_bytes::<F>();
-        let from = (usize::from(board) - 1) * size;
-        &self.bytes[from..from + size]
+        piece_at(self.bytes, size, usize::from(board).saturating_sub(1))
+    }
+
+    /// Whether the elements of a board's fragment are codes.
+    pub(crate) fn holds_codes(&self, board: u16) -> bool
+        ensures { let fragment = held F.arithmetic self.now.shape self.now.bytes.now board in IsTrue result ↔ Elements F.arithmetic fragment (length fragment / width F.arithmetic) }
+    {
+        overrun::<F>(self.of(board)).is_none()
     }
 }
