@@ -2,3 +2,4 @@ pub mod Code
 pub mod Shaped
 pub mod Decoding
 pub mod Commitment
+pub mod Choice

@@ -3,7 +3,7 @@ ghost use Rattle.std.specs.Prelude.{◌≡◌, ◌<◌, ◌↔◌, true, take, l
 ghost use Rattle.std.proofs.Props.{props};
 ghost use Rattle.hash.specs.Bytes.{Bytes};
 ghost use Rattle.polynomial.specs.Interpolation.{BasisOf};
-ghost use Rattle.coding.specs.Decoding.{are_chosen, coefficients, points_of, row_coefficients, Sound};
+ghost use Rattle.coding.specs.Decoding.{are_chosen, Sound};
 ghost use Rattle.coding.specs.Shaped.{fragments_length, is_block};
 
 use crate::fragments::Fragments;
@@ -21,6 +21,8 @@ pub(crate) struct Chosen<'a, F: Field> {
 }
 
 impl<'a, F: Field> Chosen<'a, F> {
+    ghost use Rattle.coding.specs.Choice.{IsSound};
+
     /// The choice of these boards among those whose fragments stand in `fragments`, or none where a length does not fit or the boards are not t + 1 in rising order.
     pub(crate) fn new(shape: Shape, fragments: &'a [u8], boards: &'a [u16]) -> Option<Chosen<'a, F>>
         ensures fits { IsSome result ↔ ((length fragments.now ≡ fragments_length F.arithmetic shape) × (are_chosen shape boards.now ≡ true)) }
@@ -38,7 +40,7 @@ impl<'a, F: Field> Chosen<'a, F> {
 
     /// Whether the elements of the chosen boards' fragments are codes.
     fn holds_codes(&self) -> bool
-        ensures { IsTrue result ↔ Sound F.arithmetic self.now.fragments.shape self.now.fragments.bytes.now self.now.boards.now }
+        ensures { IsTrue result ↔ IsSound F.arithmetic self.now }
     {
         self.boards
             .iter()
@@ -56,9 +58,11 @@ pub(crate) struct Rows<'a, F: Field> {
 }
 
 impl<'a, F: Field> Rows<'a, F> {
+    ghost use Rattle.coding.specs.Choice.{IsSound, points_at, row_at, rows_in};
+
     /// The rows that the chosen boards' fragments give, or none where an element there is not a code.
     pub(crate) fn new(chosen: Chosen<'a, F>) -> Option<Rows<'a, F>>
-        ensures sound { IsSome result ↔ Sound F.arithmetic chosen.entry.fragments.shape chosen.entry.fragments.bytes.now chosen.entry.boards.now }
+        ensures sound { IsSome result ↔ IsSound F.arithmetic chosen.entry }
         ensures of { IfSome result (λ r. r.chosen ≡ chosen.entry) }
     {
         if !chosen.holds_codes() {
@@ -71,7 +75,7 @@ impl<'a, F: Field> Rows<'a, F> {
     /// The points of row `i`: each chosen board's number, and the value that its fragment has there.
     fn points(&self, i: usize) -> [(u16, u16); 6]
         requires { i < self.now.chosen.fragments.shape.rows }
-        ensures { take (length self.now.chosen.boards.now) result ≡ points_of F.arithmetic self.now.chosen.fragments.shape self.now.chosen.fragments.bytes.now self.now.chosen.boards.now i }
+        ensures { take (length self.now.chosen.boards.now) result ≡ points_at F.arithmetic self.now.chosen i }
     {
         let mut points = [(0, 0); 6];
         for (k, board) in self.chosen.boards.iter().enumerate() {
@@ -84,7 +88,7 @@ impl<'a, F: Field> Rows<'a, F> {
     /// The coefficients of row `i`, in the first places.
     fn row(&self, i: usize) -> [u16; 6]
         requires { i < self.now.chosen.fragments.shape.rows }
-        ensures { take (length self.now.chosen.boards.now) result ≡ row_coefficients F.arithmetic F.inverted self.now.chosen.fragments.shape self.now.chosen.fragments.bytes.now self.now.chosen.boards.now i }
+        ensures { take (length self.now.chosen.boards.now) result ≡ row_at F.arithmetic F.inverted self.now.chosen i }
     {
         let points = self.points(i);
         self.basis
@@ -95,7 +99,7 @@ impl<'a, F: Field> Rows<'a, F> {
     /// Whether every coefficient of row `i` is a byte.
     fn row_is_bytes(&self, i: usize) -> bool
         requires { i < self.now.chosen.fragments.shape.rows }
-        ensures { IsTrue result ↔ Bytes (row_coefficients F.arithmetic F.inverted self.now.chosen.fragments.shape self.now.chosen.fragments.bytes.now self.now.chosen.boards.now i) }
+        ensures { IsTrue result ↔ Bytes (row_at F.arithmetic F.inverted self.now.chosen i) }
     {
         self.row(i)[..self.chosen.boards.len()]
             .iter()
@@ -104,16 +108,16 @@ impl<'a, F: Field> Rows<'a, F> {
 
     /// Whether every coefficient of every row is a byte.
     pub(crate) fn are_bytes(&self) -> bool
-        ensures { IsTrue result ↔ Bytes (coefficients F.arithmetic F.inverted self.now.chosen.fragments.shape self.now.chosen.fragments.bytes.now self.now.chosen.boards.now) }
+        ensures { IsTrue result ↔ Bytes (rows_in F.arithmetic F.inverted self.now.chosen) }
     {
         (0..self.chosen.fragments.shape.rows).all(|i| self.row_is_bytes(i))
     }
 
     /// Writes the coefficients of every row, which are bytes, as a block.
     pub(crate) fn write_to(&self, block: &mut [u8])
-        requires bytes { Bytes (coefficients F.arithmetic F.inverted self.now.chosen.fragments.shape self.now.chosen.fragments.bytes.now self.now.chosen.boards.now) }
+        requires bytes { Bytes (rows_in F.arithmetic F.inverted self.now.chosen) }
         requires room { is_block self.now.chosen.fragments.shape block.old ≡ true }
-        ensures { block.new ≡ coefficients F.arithmetic F.inverted self.now.chosen.fragments.shape self.now.chosen.fragments.bytes.now self.now.chosen.boards.now }
+        ensures { block.new ≡ rows_in F.arithmetic F.inverted self.now.chosen }
     {
         let count = self.chosen.boards.len();
         for i in 0..self.chosen.fragments.shape.rows {
