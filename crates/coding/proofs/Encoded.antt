@@ -1,8 +1,8 @@
 -- What a board holds of a byte string: row by row, as the code writes it.
-use Rattle.std.proofs.Common.{◌≡◌, ℕ, zero, suc, ◌+◌, ◌-◌, ◌*◌, ◌/◌, ◌<◌, ◌≤◌, Bool, true, false, cond, ◌&&◌, Ok, Err, Result, OnOk, ltb, List, [], ◌∷◌, ◌++◌, length, take, drop, replicate, sym, refl, ap, ◌∙◌, ap₂, ⊎_elim, add-mul, one-mul, zero-mul, arith}
+use Rattle.std.proofs.Common.{◌≡◌, ℕ, zero, suc, ◌+◌, ◌-◌, ◌*◌, ◌/◌, ◌<◌, ◌≤◌, Bool, true, false, ◌&&◌, ◌↔◌, Ok, Err, Result, OnOk, List, [], ◌∷◌, ◌++◌, length, take, drop, replicate, sym, refl, ap, ◌∙◌, ap₂, ⊎_elim, add-mul, one-mul, zero-mul, arith}
 use Rattle.std.proofs.lemmas.List.{length-take-le, length-append, length-replicate, take_all, take_at, take-replicate, drop-replicate, append_assoc}
 use Rattle.std.proofs.lemmas.Nat.{div-mul-add}
-use Rattle.std.proofs.lemmas.Bool.{cases_lt, and_from, lt-ltb, cond-true}
+use Rattle.std.proofs.lemmas.Bool.{cases_lt}
 use Rattle.field.proofs.Widths.{width_least}
 use Rattle.field.specs.Laws.{Arithmetic, RingLaws, width}
 use Rattle.elements.specs.Pieces.{piece, filled, put}
@@ -10,6 +10,8 @@ use Rattle.elements.specs.Numbers.{written}
 use Rattle.polynomial.specs.Polynomial.{eval}
 use Rattle.coding.specs.Code.{coded}
 use Rattle.coding.specs.Shaped.{answered}
+use Rattle.elements.specs.declared.Unwritten.{Unwritten}
+use Rattle.elements.specs.declared.Unwritten.TheVariants.{Outside, Overrun}
 use Rattle.coding.specs.declared.encoding.Unencodable.{Unencodable}
 use Rattle.polynomial.proofs.Evaluation.{eval-filled}
 use Rattle.elements.proofs.Pieces.{laid_none, laid_more, laid_same, length-laid}
@@ -59,15 +61,20 @@ coded_none R k x xs part = ap (λ n. take n part) (zero-mul (width R)) ∙ sym (
 pub coded-length : (R : Arithmetic) (k q : ℕ) (xs : List ℕ) (j : ℕ) → length (coded R k q xs j) ≡ q * width R
 coded-length R k q xs j = length-laid (λ i. written (width R) (eval R (piece k xs i) j)) (width R) q (λ i h. written-length (width R) (eval R (piece k xs i) j))
 
--- A code is written at a place that the part has.
-pub element-put : (R : Arithmetic) (rows i v : ℕ) (part now : List ℕ) (r : Bool) → length part ≡ rows * width R → i < rows → v < R.size →
-    r ≡ (ltb i (length part / width R) && ltb v R.size) → now ≡ cond r (put part (i * width R) (written (width R) v)) part → now ≡ put part (i * width R) (written (width R) v)
-element-put R rows i v part now r long h code answer is =
+part_elements : (R : Arithmetic) (rows : ℕ) (part : List ℕ) → length part ≡ rows * width R → length part / width R ≡ rows
+part_elements R rows part long =
     let w = width_least R in
     let e : length part ≡ rows * width R + 0 = omega arith in
-    let n : length part / width R ≡ rows = ap (λ n. n / width R) e ∙ div-mul-add rows (width R) 0 (omega arith) in
-    is ∙ cond-true r (put part (i * width R) (written (width R) v)) part
-    (answer ∙ and_from (ltb i (length part / width R)) (ltb v R.size) (lt-ltb i (length part / width R) (omega arith)) (lt-ltb v R.size code))
+    ap (λ n. n / width R) e ∙ div-mul-add rows (width R) 0 (omega arith)
+
+-- A code is written at a place that the part has.
+pub element-put : (R : Arithmetic) (rows i v : ℕ) (part now : List ℕ) (r : Result (Unit {0}) Unwritten) → length part ≡ rows * width R → i < rows → v < R.size →
+    (r ≡ Err Outside ↔ length part / width R ≤ i) → (r ≡ Err Overrun ↔ (i < length part / width R) × (R.size ≤ v)) →
+    OnOk r (now ≡ put part (i * width R) (written (width R) v)) → now ≡ put part (i * width R) (written (width R) v)
+element-put R rows i v part now (Ok _) long h code outside overrun is = is
+element-put R rows i v part now (Err Outside) long h code outside overrun is =
+    let past = outside.0 refl in absurd (omega (arith, part_elements R rows part long))
+element-put R rows i v part now (Err Overrun) long h code outside overrun is = let over = (overrun.0 refl).1 in absurd (omega arith)
 
 -- What is known of an answer that nothing refused.
 pub when_fit : {P Q : Type 0} (r : Result (Unit {0}) Unencodable) (there source part : Bool) → r ≡ answered (there && source && part) there → OnOk r P → (there ≡ true → P → Q) → OnOk r Q

@@ -50,7 +50,7 @@ module _ (R : Arithmetic) (inv : ℕ → ℕ) (L : RingLaws R) (s : Shape) (frag
   solved =
       let c = chosen s js yes! in
       through js based (ap codes_of is ∙ codes_points (λ j. element R (held R s fragments j) i) js)
-      (boards_codes R L s.faults js s.range.1 c.boards) c.distinct
+      (boards_codes R L s.faults js s.faults_most c.boards) c.distinct
       (subst (Codes R) (sym values_is)
       (All-map (λ a. a < R.size) (λ j. element R (held R s fragments j) i) js
       (All-weaker (λ j. Elements R (held R s fragments j) s.rows) (λ j. element R (held R s fragments j) i < R.size) (λ j e. e i h) js sound)))

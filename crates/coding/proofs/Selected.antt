@@ -54,7 +54,8 @@ module _ (s : Shape) (js : List ℕ) (yes! : are_chosen s js ≡ true) where
   pub chosen-admitted : (R : Arithmetic) → RingLaws R → admitted R js ≡ true
   chosen-admitted R L =
       let n = chosen_many in
-      let t = s.range in
+      let least = s.faults_least in
+      let most = s.faults_most in
       and_from (leb 1 (length js) && leb (length js) 6) (rising 0 R.size js)
       (and_from (leb 1 (length js)) (leb (length js) 6) (le-leb 1 (length js) (omega arith)) (le-leb (length js) 6 (omega arith)))
       (rising_wider 1 (board_count s.faults + 1) 0 R.size js (omega arith) (omega (arith, L.least)) parts.1)

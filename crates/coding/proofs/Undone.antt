@@ -36,7 +36,7 @@ module _ (R : Arithmetic) (inv : ℕ → ℕ) (I : FieldLaws R inv) (s : Shape) 
   returned yes! bytes long =
       let c = chosen s js yes! in
       decoded-coded R inv I (row_length s.faults) s.rows block js (held R s fragments) c.enough
-      (boards_codes R I.ring s.faults js s.range.1 c.boards) c.distinct (bytes_codes R inv I block bytes) long same
+      (boards_codes R I.ring s.faults js s.faults_most c.boards) c.distinct (bytes_codes R inv I block bytes) long same
 
 undoes_encoding : (R : Arithmetic) (inv : ℕ → ℕ) (I : FieldLaws R inv) (s : Shape) (fragments js before : List ℕ) (r : Result (Unit {0}) Undecodable) (after : List ℕ) →
     Decoding R inv s fragments js before r after → DecodingUndoesEncoding R s fragments js before r after

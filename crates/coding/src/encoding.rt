@@ -46,7 +46,7 @@ fn encode<F: Field>(
     if !(1..=shape.boards()).contains(&usize::from(board)) {
         return Err(Unencodable::NoBoard);
     }
-    if source.len() != bytes || part.len() != rows * F::element_width() {
+    if source.len() != bytes || part.len() != rows * F::WIDTH {
         return Err(Unencodable::Length);
     }
     encode_rows::<F>(shape.row_bytes(), rows, source, board, part);

@@ -20,7 +20,7 @@ loop-i-preserved g c =
     (let e = piece_end i c.args.rows (width R) c.loop-i-test.true in omega (arith, c.requires))
     c.loop-i.invariant (c.value_at.ensures ∙ ap (λ p. eval R p c.args.code) c.piece_at.ensures)
     (element-put R c.args.rows i v c.loop-i.part c.write_element.new.part c.write_element.result (c.loop-i.auto.part ∙ c.requires) c.loop-i-test.true
-    (subst (λ v. v < R.size) (sym c.value_at.ensures) (eval_code R g.met.F.Field.laws.ring _ c.args.code)) c.write_element.ensures.answer c.write_element.ensures.part)
+    (subst (λ v. v < R.size) (sym c.value_at.ensures) (eval_code R g.met.F.Field.laws.ring _ c.args.code)) c.write_element.ensures.outside c.write_element.ensures.overrun c.write_element.ensures.written)
 
 pub returns : goal.returns
 returns g c =

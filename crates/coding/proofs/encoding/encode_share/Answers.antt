@@ -7,7 +7,7 @@ use Rattle.coding.proofs.Sizes.{share_rows_few, board-code}
 use Rattle.coding.proofs.encoding.encode_share.Goals as goal
 
 pub encode-requires : goal.encode-requires
-encode-requires g c = omega (arith, c.share_rows-rows.ensures, share_rows_few c.args.shape.faults c.args.shape.range.0 c.args.shape.range.1)
+encode-requires g c = omega (arith, c.share_rows-rows.ensures, share_rows_few c.args.shape.faults c.args.shape.faults_least c.args.shape.faults_most)
 
 pub returns-clause-part : goal.returns-clause-part
 returns-clause-part g c =
@@ -19,7 +19,7 @@ returns-clause-part g c =
     made
     ∙ ap (λ q. coded R (row_length t) q v c.args.board) c.share_rows-rows.ensures
     ∙ coded-filled R g.met.F.Field.laws.ring (row_length t) (share_rows t) (share_rows t * row_length t) v c.args.board
-    (board-code R g.met.F.Field.laws.ring t c.args.board c.args.shape.range.1 there))
+    (board-code R g.met.F.Field.laws.ring t c.args.board c.args.shape.faults_most there))
 
 pub returns-clause-fixes : goal.returns-clause-fixes
-returns-clause-fixes g c = shares_fix_vectors g.F.Field.arithmetic g.F.Field.inverted g.met.F.Field.laws c.args.shape.faults c.args.shape.range.1
+returns-clause-fixes g c = shares_fix_vectors g.F.Field.arithmetic g.F.Field.inverted g.met.F.Field.laws c.args.shape.faults c.args.shape.faults_most
