@@ -1,7 +1,9 @@
 // Which boards a round does without, and how many rows a design takes.
 ghost use Rattle.std.specs.Prelude.{◌≡◌, ℕ, ◌*◌, ◌<◌, ◌≤◌, [], ◌∷◌, ◌++◌, IfOk, if◌then◌else◌, count_by, OnOk};
+ghost use Rattle.shape.specs.Lengths.{board_count};
 ghost use Rattle.walkthrough.specs.Taken.{taken, remaining};
 
+use shape::Shape;
 use std::alloc::{AllocError, Global};
 
 /// Which t boards are taken away.
@@ -18,16 +20,15 @@ pub(crate) enum Away {
 }
 
 impl Away {
-    /// Whether the board is taken away where t boards are.
-    pub(crate) fn takes(self, faults: usize, board: u16) -> bool
-        requires { faults ≤ 5 }
-        ensures { result ≡ taken self faults board }
+    /// Whether the board is taken away where the shape's t boards are.
+    pub(crate) fn takes(self, shape: Shape, board: u16) -> bool
+        ensures { result ≡ taken self shape.faults board }
     {
         let board = usize::from(board);
         match self {
-            Away::Lowest => board <= faults,
-            Away::Highest => board > 2 * faults + 1,
-            Away::Middle => board > faults && board <= 2 * faults,
+            Away::Lowest => board <= shape.faults,
+            Away::Highest => board > 2 * shape.faults + 1,
+            Away::Middle => (shape.faults + 1..=2 * shape.faults).contains(&board),
             Away::EveryThird => board % 3 == 0,
         }
     }
@@ -43,7 +44,8 @@ pub(crate) struct Sorted {
 impl Sorted {
     /// No boards.
     pub(crate) fn new(heap: Global) -> Sorted
-        ensures { (result.usable.items ≡ []) × (result.left_out.items ≡ []) }
+        ensures usable { result.usable.items ≡ [] }
+        ensures left { result.left_out.items ≡ [] }
     {
         Sorted {
             usable: Vec::new(heap),
@@ -65,20 +67,13 @@ impl Sorted {
     }
 }
 
-/// Sorts the boards 1 to `count` by whether they are taken away.
-pub(crate) fn present(
-    heap: Global,
-    away: Away,
-    faults: usize,
-    count: u16,
-) -> Result<Sorted, AllocError>
-    requires { (faults ≤ 5) × (count ≤ 16) }
-    ensures { IfOk result (λ s. s.usable.items ≡ remaining away faults count) }
+/// Sorts the boards of a shape by whether they are taken away.
+pub(crate) fn present(heap: Global, away: Away, shape: Shape) -> Result<Sorted, AllocError>
+    ensures { IfOk result (λ s. s.usable.items ≡ remaining away shape.faults (board_count shape.faults)) }
 {
     let mut sorted = Sorted::new(heap);
-    for i in 0..count {
-        let board = i + 1;
-        sorted.put(board, !away.takes(faults, board))?;
+    for board in 1..=shape.boards() as u16 {
+        sorted.put(board, !away.takes(shape, board))?;
     }
     Ok(sorted)
 }
@@ -86,21 +81,16 @@ pub(crate) fn present(
 /// How many rows of `row` bytes hold `length` bytes: at least one, and no more than needed.
 pub(crate) fn rows_for(length: usize, row: usize) -> usize
     requires { 0 < row }
-    ensures holds { (1 ≤ result) × (length ≤ result * row) }
+    ensures some { 1 ≤ result }
+    ensures holds { length ≤ result * row }
     ensures least { (k : ℕ) → 1 ≤ k → length ≤ k * row → result ≤ k }
 {
-    length.saturating_sub(1) / row + 1
+    length.div_ceil(row).max(1)
 }
 
 /// How many of the answers are yes.
 pub(crate) fn yes_count(answers: &[bool]) -> usize
     ensures { result ≡ count_by (λ b. b) answers.now }
 {
-    let mut count = 0;
-    for answer in answers {
-        if *answer {
-            count += 1;
-        }
-    }
-    count
+    answers.iter().filter(|answer| **answer).count()
 }

@@ -1,10 +1,11 @@
 // Fetching a design from boards.
-ghost use Rattle.std.specs.Prelude.{◌≡◌, true, IfOk};
+ghost use Rattle.std.specs.Prelude.{◌≡◌, ◌↔◌, IsTrue, IsOkAnd};
 
 use crate::choices::Sorted;
 use crate::keeping::Kept;
 use coding::{Undecodable, decode};
 use field::Field;
+use hash::Hash;
 use std::alloc::{AllocError, Global};
 
 /// What came of a fetch.
@@ -12,21 +13,29 @@ use std::alloc::{AllocError, Global};
 pub(crate) struct Fetched {
     pub(crate) left_out: Vec<u16>,
     pub(crate) used: Vec<u16>,
-    pub(crate) answer: Result<(), Undecodable>,
-    pub(crate) design: Vec<u8>,
-    /// Whether the design came back, byte for byte.
-    pub(crate) equal: bool,
+    /// The design, or why nothing was given back.
+    pub(crate) design: Result<Vec<u8>, Undecodable>,
 }
 
-/// Fetches a design from the t + 1 lowest boards that may be used.
-pub(crate) fn fetch<F: Field>(
+impl Fetched {
+    /// Whether the design came back, byte for byte.
+    pub(crate) fn gives(&self, design: &[u8]) -> bool
+        ensures { IsTrue result ↔ IsOkAnd self.now.design (λ given. given.items ≡ design.now) }
+    {
+        match &self.design {
+            Ok(given) => given.as_slice() == design,
+            Err(_) => false,
+        }
+    }
+}
+
+/// Fetches a design of `length` bytes from the t + 1 lowest boards that may be used.
+pub(crate) fn fetch<F: Field, D: Hash>(
     heap: Global,
-    kept: &Kept,
+    kept: &Kept<F, D>,
     boards: Sorted,
-    design: &[u8],
-) -> Result<Fetched, AllocError>
-    ensures { IfOk result (λ f. f.equal ≡ true → f.design.items ≡ design.now) }
-{
+    length: usize,
+) -> Result<Fetched, AllocError> {
     let Sorted {
         usable: mut used,
         left_out,
@@ -39,13 +48,10 @@ pub(crate) fn fetch<F: Field>(
         used.as_slice(),
         block.as_mut_slice(),
     );
-    block.truncate(design.len());
-    let equal = answer.is_ok() && block.as_slice() == design;
+    block.truncate(length);
     Ok(Fetched {
         left_out,
         used,
-        answer,
-        design: block,
-        equal,
+        design: answer.map(|()| block),
     })
 }

@@ -1,5 +1,7 @@
 // What the boards keep of a design.
-ghost use Rattle.std.specs.Prelude.{◌≡◌, ◌-◌, ◌<◌, ◌≤◌, ◌++◌, length, take, replicate, IfOk, Decides};
+ghost use Rattle.std.specs.Prelude.{◌≡◌, ◌↔◌, ◌-◌, ◌*◌, ◌<◌, ◌≤◌, ◌++◌, length, take, replicate, IsTrue, IfOk};
+ghost use Rattle.field.specs.Laws.{width};
+ghost use Rattle.shape.specs.Lengths.{fragment_length};
 ghost use Rattle.coding.specs.Commitment.{fragment_digest};
 ghost use Rattle.elements.specs.Pieces.{piece};
 
@@ -10,21 +12,18 @@ use field::Field;
 use hash::Hash;
 use shape::Shape;
 use std::alloc::{AllocError, Global};
+use std::marker::PhantomData;
 
-/// What the boards keep of one design.
+/// What the boards keep of one design, over a field and by a hash.
 #[derive(Drop)]
-pub(crate) struct Kept {
+pub(crate) struct Kept<F: Field, D: Hash> {
     pub(crate) shape: Shape,
-    /// The bytes of a fragment.
-    pub(crate) size: usize,
     /// The fragments of all boards, board 1's first.
     pub(crate) fragments: Vec<u8>,
     pub(crate) vector: Vec<u8>,
     /// Board 1's share of the vector.
     pub(crate) share: Vec<u8>,
-    /// Whether every call of the code went through.
-    pub(crate) coded: bool,
-    ghost range: { (0 < size) × (size ≤ 1024) },
+    over: PhantomData<(F, D)>,
 }
 
 /// The design, filled up with zero bytes to `size` bytes.
@@ -36,33 +35,9 @@ fn fill_up(heap: Global, design: &[u8], size: usize) -> Result<Vec<u8>, AllocErr
     Ok(block)
 }
 
-/// Gives each board its fragment and its share of the vector.
-pub(crate) fn keep<F: Field, D: Hash>(
-    heap: Global,
-    shape: Shape,
-    design: &[u8],
-) -> Result<Kept, AllocError> {
-    let size = shape.fragment_bytes::<F>();
-    let block = fill_up(heap, design, shape.block_bytes())?;
-    let mut fragments = vec![in heap; 0; shape.boards() * size]?;
-    let mut vector = vec![in heap; 0; shape.vector_bytes()]?;
-    let mut share = vec![in heap; 0; shape.share_bytes::<F>()]?;
-    let cut = encode_fragments::<F>(shape, block.as_slice(), fragments.as_mut_slice()).is_ok();
-    let committed = commit::<F, D>(shape, fragments.as_slice(), vector.as_mut_slice()).is_ok();
-    let shared = encode_share::<F>(shape, vector.as_slice(), 1, share.as_mut_slice()).is_ok();
-    Ok(Kept {
-        shape,
-        size,
-        fragments,
-        vector,
-        share,
-        coded: cut && committed && shared,
-    })
-}
-
 /// Whether a fragment's digest is its board's entry of the vector.
 fn matches<D: Hash>(entry: &[u8], board: u16, fragment: &[u8]) -> bool
-    ensures { Decides result (entry.now ≡ fragment_digest D.hashes board fragment.now) }
+    ensures { IsTrue result ↔ (entry.now ≡ fragment_digest D.hashes board fragment.now) }
 {
     entry == digest_of::<D>(board, fragment).as_slice()
 }
@@ -73,36 +48,74 @@ fn part(parts: &[u8], size: usize, board: u16) -> &[u8]
     ensures { result.now ≡ piece size parts.now (board - 1) }
 {
     let from = usize::from(board).saturating_sub(1) * size;
-    first(&parts[parts.len().min(from)..], size)
+    first(parts.get(from..).unwrap_or(&[]), size)
 }
 
-impl Kept {
+impl<F: Field, D: Hash> Kept<F, D> {
+    /// Gives each board its fragment of the design and its share of the vector.
+    pub(crate) fn new(heap: Global, shape: Shape, design: &[u8]) -> Result<Self, AllocError> {
+        let block = fill_up(heap, design, shape.block_bytes())?;
+        let mut fragments = vec![in heap; 0; shape.boards() * shape.fragment_bytes::<F>()]?;
+        let mut vector = vec![in heap; 0; shape.vector_bytes()]?;
+        let mut share = vec![in heap; 0; shape.share_bytes::<F>()]?;
+        let cut = encode_fragments::<F>(shape, block.as_slice(), fragments.as_mut_slice());
+        prove!(cut);
+        let committed = commit::<F, D>(shape, fragments.as_slice(), vector.as_mut_slice());
+        prove!(committed);
+        let shared = encode_share::<F>(shape, vector.as_slice(), 1, share.as_mut_slice());
+        prove!(shared);
+        Ok(Kept {
+            shape,
+            fragments,
+            vector,
+            share,
+            over: PhantomData,
+        })
+    }
+
+    /// The boards by their numbers.
+    pub(crate) fn last_board(&self) -> u16 {
+        self.shape.boards() as u16
+    }
+
     /// A board's fragment.
-    pub(crate) fn fragment(&self, board: u16) -> &[u8] {
-        part(self.fragments.as_slice(), self.size, board)
+    pub(crate) fn fragment(&self, board: u16) -> &[u8]
+        ensures { result.now ≡ piece (fragment_length (width F.arithmetic) self.now.shape.rows) self.now.fragments.items (board - 1) }
+    {
+        part(
+            self.fragments.as_slice(),
+            self.shape.fragment_bytes::<F>(),
+            board,
+        )
     }
 
     /// A board's entry of the vector.
-    pub(crate) fn entry(&self, board: u16) -> &[u8] {
+    pub(crate) fn entry(&self, board: u16) -> &[u8]
+        ensures { result.now ≡ piece 32 self.now.vector.items (board - 1) }
+    {
         part(self.vector.as_slice(), 32, board)
     }
 
+    /// The digest of a board's fragment as it is now.
+    pub(crate) fn digest(&self, board: u16) -> [u8; 32] {
+        digest_of::<D>(board, self.fragment(board))
+    }
+
     /// Sorts the boards by whether their fragments are good.
-    pub(crate) fn examine<D: Hash>(&self, heap: Global) -> Result<Sorted, AllocError> {
-        let fragments = self.fragments.as_slice().chunks(self.size);
-        let entries = self.vector.as_slice().chunks(32);
+    pub(crate) fn examine(&self, heap: Global) -> Result<Sorted, AllocError> {
         let mut sorted = Sorted::new(heap);
-        for (board, (fragment, entry)) in (1..=self.shape.boards() as u16).zip(fragments.zip(
-            entries,
-        )) {
-            sorted.put(board, matches::<D>(entry, board, fragment))?;
+        for board in 1..=self.last_board() {
+            sorted.put(
+                board,
+                matches::<D>(self.entry(board), board, self.fragment(board)),
+            )?;
         }
         Ok(sorted)
     }
 
     /// Turns every bit of the first byte of a board's fragment.
     pub(crate) fn damage(&mut self, board: u16) {
-        let at = usize::from(board).saturating_sub(1) * self.size;
+        let at = usize::from(board).saturating_sub(1) * self.shape.fragment_bytes::<F>();
         if let Some(byte) = self.fragments.get_mut(at) {
             *byte = !*byte;
         }

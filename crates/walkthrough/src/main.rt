@@ -4,15 +4,14 @@
 mod choices;
 mod fetching;
 mod keeping;
+mod kinds;
 mod rounds;
 mod shown;
 mod telling;
 
 use choices::{Away, yes_count};
-use field256::Field256;
-use field257::Field257;
-use hash::{Fold, Sha256};
-use rounds::{Round, tell_round};
+use kinds::{FieldKind, HashKind};
+use rounds::Round;
 use std::io;
 use std::io::Read;
 use telling::tell_design;
@@ -20,57 +19,65 @@ use telling::tell_design;
 /// The rounds, in which other boards are away and another fragment is damaged each time.
 const ROUNDS: [Round; 8] = [
     Round {
-        title: "Round 1 of 8: t = 1, field 256, hash SHA-256",
         faults: 1,
+        field: FieldKind::Field256,
+        hash: HashKind::Sha256,
         away: Away::Lowest,
         damaged: 2,
         shown: 32,
     },
     Round {
-        title: "Round 2 of 8: t = 1, field 256, hash Fold",
         faults: 1,
+        field: FieldKind::Field256,
+        hash: HashKind::Fold,
         away: Away::Highest,
         damaged: 1,
         shown: 8,
     },
     Round {
-        title: "Round 3 of 8: t = 1, field 257, hash SHA-256",
         faults: 1,
+        field: FieldKind::Field257,
+        hash: HashKind::Sha256,
         away: Away::Middle,
         damaged: 4,
         shown: 8,
     },
     Round {
-        title: "Round 4 of 8: t = 1, field 257, hash Fold",
         faults: 1,
+        field: FieldKind::Field257,
+        hash: HashKind::Fold,
         away: Away::EveryThird,
         damaged: 3,
         shown: 8,
     },
     Round {
-        title: "Round 5 of 8: t = 2, field 256, hash SHA-256",
         faults: 2,
+        field: FieldKind::Field256,
+        hash: HashKind::Sha256,
         away: Away::Lowest,
         damaged: 3,
         shown: 8,
     },
     Round {
-        title: "Round 6 of 8: t = 2, field 256, hash Fold",
         faults: 2,
+        field: FieldKind::Field256,
+        hash: HashKind::Fold,
         away: Away::Highest,
         damaged: 1,
         shown: 8,
     },
     Round {
-        title: "Round 7 of 8: t = 2, field 257, hash SHA-256",
         faults: 2,
+        field: FieldKind::Field257,
+        hash: HashKind::Sha256,
         away: Away::Middle,
         damaged: 7,
         shown: 8,
     },
     Round {
-        title: "Round 8 of 8: t = 2, field 257, hash Fold",
         faults: 2,
+        field: FieldKind::Field257,
+        hash: HashKind::Fold,
         away: Away::EveryThird,
         damaged: 2,
         shown: 8,
@@ -108,25 +115,19 @@ entry of the vector, so that board is left out, and the t + 1 lowest of the othe
 
 /// Tells what the design is, and what the words mean that the rounds use.
 fn tell_words(rt: &HostRuntime, design: &[u8]) -> io::Result<()> {
-    rt.println("How boards keep a design, and how some of them give it back")?;
-    rt.println("")?;
+    rt.println("How boards keep a design, and how some of them give it back\n")?;
     tell_design(rt, "The design has ", design)?;
-    rt.println("")?;
-    rt.println(WORDS)
+    println!(rt; "\n{WORDS}")
 }
 
-/// Tells the rounds, with each field and each hash in turn, and says of each whether the design came back.
-fn tell_rounds(rt: &HostRuntime, design: &[u8]) -> io::Result<[bool; 8]> {
-    Ok([
-        tell_round::<Field256, Sha256>(rt, &ROUNDS[0], design)?,
-        tell_round::<Field256, Fold>(rt, &ROUNDS[1], design)?,
-        tell_round::<Field257, Sha256>(rt, &ROUNDS[2], design)?,
-        tell_round::<Field257, Fold>(rt, &ROUNDS[3], design)?,
-        tell_round::<Field256, Sha256>(rt, &ROUNDS[4], design)?,
-        tell_round::<Field256, Fold>(rt, &ROUNDS[5], design)?,
-        tell_round::<Field257, Sha256>(rt, &ROUNDS[6], design)?,
-        tell_round::<Field257, Fold>(rt, &ROUNDS[7], design)?,
-    ])
+/// Tells the rounds one after another, and says of each whether the design came back.
+fn tell_rounds(rt: &HostRuntime, design: &[u8]) -> io::Result<Vec<bool>> {
+    let mut answers = Vec::new(rt.alloc());
+    for (i, round) in ROUNDS.iter().enumerate() {
+        println!(rt; "\nRound {} of {}: {round}", i + 1, ROUNDS.len())?;
+        answers.push(round.tell(rt, design)?)?;
+    }
+    Ok(answers)
 }
 
 /// Tells all that happens, and how many rounds gave the design back.
@@ -136,10 +137,9 @@ fn run(rt: &HostRuntime) -> io::Result<()> {
     let answers = tell_rounds(rt, design.as_slice())?;
     println!(rt;
         "\n{} of {} rounds gave the design back",
-        yes_count(&answers),
+        yes_count(answers.as_slice()),
         answers.len()
-    )?;
-    Ok(())
+    )
 }
 
 fn main(rt: HostRuntime) -> io::Result<()> {

@@ -1,21 +1,24 @@
 // One round: a design is kept, fetched without some boards, and fetched with a damaged fragment.
 use crate::choices::{Away, present, rows_for};
 use crate::fetching::fetch;
-use crate::keeping::{Kept, keep};
-use crate::telling::{print_length, tell_damage, tell_fetch, tell_fragments, tell_sizes};
-use coding::digest_of;
+use crate::keeping::Kept;
+use crate::kinds::{FieldKind, HashKind};
+use crate::shown::first;
+use crate::telling::{tell_fetch, tell_fragment, tell_fragments, tell_sizes};
 use field::Field;
-use hash::Hash;
+use field256::Field256;
+use field257::Field257;
+use hash::{Fold, Hash, Sha256};
 use shape::Shape;
-use std::io;
+use std::{fmt, io};
 
 /// What a round does.
 #[derive(Clone, Copy)]
 pub(crate) struct Round {
-    /// Its number, t, the field and the hash, in words.
-    pub(crate) title: &'static str,
-    /// How many boards may be missing or broken.
-    pub(crate) faults: u8,
+    /// t, how many boards may be missing or broken.
+    pub(crate) faults: usize,
+    pub(crate) field: FieldKind,
+    pub(crate) hash: HashKind,
     pub(crate) away: Away,
     /// The board whose fragment is damaged.
     pub(crate) damaged: u16,
@@ -23,89 +26,80 @@ pub(crate) struct Round {
     pub(crate) shown: usize,
 }
 
-/// Fetches the design while t boards are away, and says whether it came back.
-fn tell_absence<F: Field>(
-    rt: &HostRuntime,
-    round: &Round,
-    kept: &Kept,
-    design: &[u8],
-) -> io::Result<bool> {
-    let heap = rt.alloc();
-    let boards = present(
-        heap,
-        round.away,
-        kept.shape.faults,
-        kept.shape.boards() as u16,
-    )?;
-    let fetched = fetch::<F>(heap, kept, boards, design)?;
-    tell_fetch(rt, "    taken away ", &fetched)?;
-    Ok(fetched.equal)
+impl fmt::Display for Round {
+    fn fmt<W: fmt::Write>(&self, f: &mut fmt::Formatter<W>) -> fmt::Result {
+        write!(
+            f,
+            "t = {}, field {}, hash {}",
+            self.faults, self.field, self.hash
+        )
+    }
 }
 
-/// Damages a fragment, fetches the design from boards whose fragments are good, and says whether it came back.
-fn tell_repair<F: Field, D: Hash>(
-    rt: &HostRuntime,
-    round: &Round,
-    mut kept: Kept,
-    design: &[u8],
-) -> io::Result<bool> {
-    let heap = rt.alloc();
-    kept.damage(round.damaged);
-    let digest = digest_of::<D>(round.damaged, kept.fragment(round.damaged));
-    tell_damage(
-        rt,
-        round.shown,
-        round.damaged,
-        kept.fragment(round.damaged),
-        &digest,
-    )?;
-    let boards = kept.examine::<D>(heap)?;
-    let fetched = fetch::<F>(heap, &kept, boards, design)?;
-    tell_fetch(rt, "    left out   ", &fetched)?;
-    Ok(fetched.equal)
-}
+impl Round {
+    /// Tells the round, and says whether the design came back each time.
+    pub(crate) fn tell(&self, rt: &HostRuntime, design: &[u8]) -> io::Result<bool> {
+        match self.field {
+            FieldKind::Field256 => self.tell_over::<Field256>(rt, design),
+            FieldKind::Field257 => self.tell_over::<Field257>(rt, design),
+        }
+    }
 
-/// The lengths of a shape over a field: boards, rows, block, fragment, vector, share rows and share.
-fn lengths_of<F: Field>(shape: Shape) -> [usize; 7] {
-    [
-        shape.boards(),
-        shape.rows,
-        shape.block_bytes(),
-        shape.fragment_bytes::<F>(),
-        shape.vector_bytes(),
-        shape.share_rows(),
-        shape.share_bytes::<F>(),
-    ]
-}
+    /// Tells the round over a field.
+    fn tell_over<F: Field>(&self, rt: &HostRuntime, design: &[u8]) -> io::Result<bool> {
+        match self.hash {
+            HashKind::Sha256 => self.tell_by::<F, Sha256>(rt, design),
+            HashKind::Fold => self.tell_by::<F, Fold>(rt, design),
+        }
+    }
 
-/// Tells a round over a field and a hash, and says whether the design came back each time.
-pub(crate) fn tell_round<F: Field, D: Hash>(
-    rt: &HostRuntime,
-    round: &Round,
-    design: &[u8],
-) -> io::Result<bool> {
-    rt.println("")?;
-    rt.println(round.title)?;
-    let row = usize::from(round.faults) + 1;
-    let rows = rows_for(design.len(), row);
-    let Some(shape) = Shape::new(usize::from(round.faults), rows) else {
-        print_length(
+    /// Tells the round over a field and by a hash.
+    fn tell_by<F: Field, D: Hash>(&self, rt: &HostRuntime, design: &[u8]) -> io::Result<bool> {
+        let rows = rows_for(design.len(), self.faults.saturating_add(1));
+        let Some(shape) = Shape::new(self.faults, rows) else {
+            println!(rt;
+                "    refused     a block has at most 512 rows, and the design needs {rows}"
+            )?;
+            return Ok(false);
+        };
+        let kept = Kept::<F, D>::new(rt.alloc(), shape, design)?;
+        tell_sizes::<F>(rt, shape, design.len())?;
+        tell_fragments(rt, self.shown, &kept)?;
+        let fetched = self.tell_absence(rt, &kept, design)?;
+        let repaired = self.tell_repair(rt, kept, design)?;
+        Ok(fetched && repaired)
+    }
+
+    /// Fetches the design while t boards are away, and says whether it came back.
+    fn tell_absence<F: Field, D: Hash>(
+        &self,
+        rt: &HostRuntime,
+        kept: &Kept<F, D>,
+        design: &[u8],
+    ) -> io::Result<bool> {
+        let boards = present(rt.alloc(), self.away, kept.shape)?;
+        let fetched = fetch(rt.alloc(), kept, boards, design.len())?;
+        tell_fetch(rt, "    taken away ", &fetched, design)
+    }
+
+    /// Damages a fragment, fetches the design from boards whose fragments are good, and says whether it came back.
+    fn tell_repair<F: Field, D: Hash>(
+        &self,
+        rt: &HostRuntime,
+        mut kept: Kept<F, D>,
+        design: &[u8],
+    ) -> io::Result<bool> {
+        kept.damage(self.damaged);
+        let digest = kept.digest(self.damaged);
+        tell_fragment(
             rt,
-            "    refused     a block has at most 512 rows, and the design needs ",
-            rows,
+            "    damaged ",
+            self.damaged,
+            kept.fragment(self.damaged),
+            first(&digest, self.shown),
         )?;
-        rt.println("")?;
-        return Ok(false);
-    };
-    let kept = keep::<F, D>(rt.alloc(), shape, design)?;
-    let coded = kept.coded;
-    tell_sizes(
-        rt,
-        &lengths_of::<F>(shape),
-        shape.block_bytes().saturating_sub(design.len()),
-    )?;
-    tell_fragments(rt, round.shown, &kept)?;
-    let fetched = tell_absence::<F>(rt, round, &kept, design)?;
-    let repaired = tell_repair::<F, D>(rt, round, kept, design)?;
-    Ok(coded && fetched && repaired)
+        let boards = kept.examine(rt.alloc())?;
+        let fetched = fetch(rt.alloc(), &kept, boards, design.len())?;
+        tell_fetch(rt, "    left out   ", &fetched, design)
+    }
 }

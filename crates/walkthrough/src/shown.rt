@@ -1,56 +1,65 @@
 // How bytes and board numbers are printed.
 ghost use Rattle.std.specs.Prelude.{◌≡◌, take};
 
-use std::io;
-
-/// The hexadecimal digits.
-const DIGITS: [&str; 16] = [
-    "0", "1", "2", "3", "4", "5", "6", "7", "8", "9", "a", "b", "c", "d", "e", "f",
-];
+use std::fmt;
 
 /// At most the first `count` bytes.
 pub(crate) fn first(bytes: &[u8], count: usize) -> &[u8]
     ensures { result.now ≡ take count bytes.now }
 {
-    &bytes[0..bytes.len().min(count)]
+    bytes.get(..count).unwrap_or(bytes)
 }
 
-/// Prints a label, and bytes in hexadecimal with a text after each.
-pub(crate) fn print_hex(
-    rt: &HostRuntime,
-    label: &str,
-    bytes: &[u8],
-    after: &str,
-) -> io::Result<()> {
-    rt.print(label)?;
-    for byte in bytes {
-        rt.print(DIGITS[usize::from(*byte / 16)])?;
-        rt.print(DIGITS[usize::from(*byte % 16)])?;
-        rt.print(after)?;
-    }
-    Ok(())
+/// Bytes in hexadecimal, two digits each, with a text after each byte.
+#[derive(Clone, Copy)]
+pub(crate) struct Hex<'a> {
+    bytes: &'a [u8],
+    after: &'static str,
 }
 
-/// Prints bytes as text in quotes, with a dot for each that is no printable character.
-pub(crate) fn print_text(rt: &HostRuntime, bytes: &[u8]) -> io::Result<()> {
-    rt.print("\"")?;
-    for byte in bytes {
-        let shown = if *byte >= b' ' && *byte <= b'~' {
-            *byte
-        } else {
-            b'.'
-        };
-        rt.print(char::from(shown))?;
-    }
-    rt.print("\"")
+/// Bytes in hexadecimal, one after another.
+pub(crate) fn whole(bytes: &[u8]) -> Hex<'_> {
+    Hex { bytes, after: "" }
 }
 
-/// Prints a label and the boards after it by their numbers.
-pub(crate) fn print_boards(rt: &HostRuntime, label: &str, boards: &[u16]) -> io::Result<()> {
-    rt.print(label)?;
-    for board in boards {
-        rt.print(" ")?;
-        rt.print(*board)?;
+/// Bytes in hexadecimal, with a space after each.
+pub(crate) fn spaced(bytes: &[u8]) -> Hex<'_> {
+    Hex { bytes, after: " " }
+}
+
+impl fmt::Display for Hex<'_> {
+    fn fmt<W: fmt::Write>(&self, f: &mut fmt::Formatter<W>) -> fmt::Result {
+        for byte in self.bytes {
+            write!(f, "{byte:02x}{}", self.after)?;
+        }
+        Ok(())
     }
-    Ok(())
+}
+
+/// Bytes as text in quotes, with a dot for each that is no printable character.
+#[derive(Clone, Copy)]
+pub(crate) struct Text<'a>(pub(crate) &'a [u8]);
+
+impl fmt::Display for Text<'_> {
+    fn fmt<W: fmt::Write>(&self, f: &mut fmt::Formatter<W>) -> fmt::Result {
+        f.write_str("\"")?;
+        for byte in self.0 {
+            let is_printable = byte.is_ascii_graphic() || *byte == b' ';
+            f.write_char(char::from(if is_printable { *byte } else { b'.' }))?;
+        }
+        f.write_str("\"")
+    }
+}
+
+/// Boards by their numbers, with a space before each.
+#[derive(Clone, Copy)]
+pub(crate) struct Boards<'a>(pub(crate) &'a [u16]);
+
+impl fmt::Display for Boards<'_> {
+    fn fmt<W: fmt::Write>(&self, f: &mut fmt::Formatter<W>) -> fmt::Result {
+        for board in self.0 {
+            write!(f, " {board}")?;
+        }
+        Ok(())
+    }
 }
