@@ -1,33 +1,20 @@
 // Vectors from outside: the examples of FIPS 180-4, and digests by other implementations at the lengths where the padding turns.
 use hash::{Fold, Hash, Sha256};
+use hex::FromHex;
+use std::array;
 use std::process::Abort;
 
 /// A message, and its digest in hexadecimal digits.
 type Case<'a> = (&'a [u8], &'static [u8; 64]);
 
-/// A digest in hexadecimal digits.
-fn hex(digest: [u8; 32]) -> [u8; 64] {
-    let digits = b"0123456789abcdef";
-    let mut text = [0; 64];
-    for i in 0..32 {
-        text[2 * i] = digits[(digest[i] / 16) as usize];
-        text[2 * i + 1] = digits[(digest[i] % 16) as usize];
-    }
-    text
-}
-
 /// The bytes 7i + 3 modulo 256.
 fn pattern() -> [u8; 120] {
-    let mut bytes = [0; 120];
-    for i in 0..120 {
-        bytes[i] = ((7 * i + 3) % 256) as u8;
-    }
-    bytes
+    array::from_fn(|i| ((7 * i + 3) % 256) as u8)
 }
 
 fn agree<D: Hash>(rt: &impl Abort, cases: &[Case]) {
     for (message, expected) in cases {
-        assert_eq!(rt; hex(D::digest(message)), **expected);
+        assert_eq!(rt; <[u8; 32]>::from_hex(*expected), Ok(D::digest(message)));
     }
 }
 

@@ -1,5 +1,7 @@
 // Fetching a design from boards.
-ghost use Rattle.std.specs.Prelude.{◌≡◌, ◌↔◌, IsTrue, IsOkAnd};
+ghost use Rattle.std.specs.Prelude.{◌≡◌, ◌↔◌, IsTrue, IsOkAnd, IfOk, take};
+ghost use Rattle.shape.specs.Lengths.{row_length};
+ghost use Rattle.coding.specs.Decoding.{coefficients};
 
 use crate::choices::Sorted;
 use crate::keeping::Kept;
@@ -29,13 +31,17 @@ impl Fetched {
     }
 }
 
-/// Fetches a design of `length` bytes from the t + 1 lowest boards that may be used.
+/// Fetches a design of `size` bytes from the t + 1 lowest boards that may be used.
 pub(crate) fn fetch<F: Field, D: Hash>(
     heap: Global,
     kept: &Kept<F, D>,
     boards: Sorted,
-    length: usize,
-) -> Result<Fetched, AllocError> {
+    size: usize,
+) -> Result<Fetched, AllocError>
+    ensures left { IfOk result (λ f. f.left_out.items ≡ boards.left_out.items) }
+    ensures used { IfOk result (λ f. f.used.items ≡ take (row_length kept.now.shape.faults) boards.usable.items) }
+    ensures design { IfOk result (λ f. IfOk f.design (λ d. d.items ≡ take size (coefficients F.arithmetic F.inverted kept.now.shape kept.now.fragments.items f.used.items))) }
+{
     let Sorted {
         usable: mut used,
         left_out,
@@ -48,7 +54,7 @@ pub(crate) fn fetch<F: Field, D: Hash>(
         used.as_slice(),
         block.as_mut_slice(),
     );
-    block.truncate(length);
+    block.truncate(size);
     Ok(Fetched {
         left_out,
         used,

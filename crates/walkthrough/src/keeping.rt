@@ -2,7 +2,9 @@
 ghost use Rattle.std.specs.Prelude.{◌≡◌, ◌↔◌, ◌-◌, ◌*◌, ◌<◌, ◌≤◌, ◌++◌, length, take, replicate, IsTrue, IfOk};
 ghost use Rattle.field.specs.Laws.{width};
 ghost use Rattle.shape.specs.Lengths.{fragment_length};
-ghost use Rattle.coding.specs.Commitment.{fragment_digest};
+ghost use Rattle.coding.specs.Commitment.{fragment_digest, vector_of};
+ghost use Rattle.coding.specs.Shaped.{fragments_of, share_of};
+ghost use Rattle.walkthrough.specs.Blocks.{block_of};
 ghost use Rattle.elements.specs.Pieces.{piece};
 
 use crate::choices::Sorted;
@@ -53,7 +55,12 @@ fn part(parts: &[u8], size: usize, board: u16) -> &[u8]
 
 impl<F: Field, D: Hash> Kept<F, D> {
     /// Gives each board its fragment of the design and its share of the vector.
-    pub(crate) fn new(heap: Global, shape: Shape, design: &[u8]) -> Result<Self, AllocError> {
+    pub(crate) fn new(heap: Global, shape: Shape, design: &[u8]) -> Result<Self, AllocError>
+        ensures shape { IfOk result (λ k. k.shape ≡ shape) }
+        ensures cut { IfOk result (λ k. k.fragments.items ≡ fragments_of F.arithmetic shape (block_of shape design.now)) }
+        ensures committed { IfOk result (λ k. k.vector.items ≡ vector_of D.hashes F.arithmetic shape k.fragments.items) }
+        ensures shared { IfOk result (λ k. k.share.items ≡ share_of F.arithmetic shape k.vector.items 1) }
+    {
         let block = fill_up(heap, design, shape.block_bytes())?;
         let mut fragments = vec![in heap; 0; shape.boards() * shape.fragment_bytes::<F>()]?;
         let mut vector = vec![in heap; 0; shape.vector_bytes()]?;

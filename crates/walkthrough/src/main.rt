@@ -12,9 +12,9 @@ mod telling;
 use choices::{Away, yes_count};
 use kinds::{FieldKind, HashKind};
 use rounds::Round;
+use shown::Start;
 use std::io;
 use std::io::Read;
-use telling::tell_design;
 
 /// The rounds, in which other boards are away and another fragment is damaged each time.
 const ROUNDS: [Round; 8] = [
@@ -116,8 +116,7 @@ entry of the vector, so that board is left out, and the t + 1 lowest of the othe
 /// Tells what the design is, and what the words mean that the rounds use.
 fn tell_words(rt: &HostRuntime, design: &[u8]) -> io::Result<()> {
     rt.println("How boards keep a design, and how some of them give it back\n")?;
-    tell_design(rt, "The design has ", design)?;
-    println!(rt; "\n{WORDS}")
+    println!(rt; "The design has {}\n{WORDS}", Start(design))
 }
 
 /// Tells the rounds one after another, and says of each whether the design came back.

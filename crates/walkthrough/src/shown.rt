@@ -63,3 +63,20 @@ impl fmt::Display for Boards<'_> {
         Ok(())
     }
 }
+
+/// A design by its length and its first bytes.
+#[derive(Clone, Copy)]
+pub(crate) struct Start<'a>(pub(crate) &'a [u8]);
+
+impl fmt::Display for Start<'_> {
+    fn fmt<W: fmt::Write>(&self, f: &mut fmt::Formatter<W>) -> fmt::Result {
+        let begins = first(self.0, 12);
+        write!(
+            f,
+            "{} bytes: {}{}",
+            self.0.len(),
+            spaced(begins),
+            Text(begins)
+        )
+    }
+}

@@ -1,7 +1,7 @@
 // What is printed of a round.
 use crate::fetching::Fetched;
 use crate::keeping::Kept;
-use crate::shown::{Boards, Text, first, spaced, whole};
+use crate::shown::{Boards, Start, first, spaced, whole};
 use coding::Undecodable;
 use field::Field;
 use hash::Hash;
@@ -85,27 +85,14 @@ pub(crate) fn tell_fetch(
         Boards(fetched.used.as_slice())
     )?;
     let is_back = fetched.gives(design);
+    let end = if is_back {
+        ", equal to the input, byte for byte"
+    } else {
+        ", NOT equal to the input"
+    };
     match &fetched.design {
+        Ok(given) => println!(rt; "    given back  {}{end}", Start(given.as_slice()))?,
         Err(why) => println!(rt; "    given back  nothing: {}", reason(why))?,
-        Ok(given) => {
-            tell_design(rt, "    given back  ", given.as_slice())?;
-            rt.println(if is_back {
-                ", equal to the input, byte for byte"
-            } else {
-                ", NOT equal to the input"
-            })?
-        }
     }
     Ok(is_back)
-}
-
-/// Prints a design's length and first bytes after a label.
-pub(crate) fn tell_design(rt: &HostRuntime, label: &str, design: &[u8]) -> io::Result<()> {
-    let begins = first(design, 12);
-    print!(rt;
-        "{label}{} bytes: {}{}",
-        design.len(),
-        spaced(begins),
-        Text(begins)
-    )
 }
