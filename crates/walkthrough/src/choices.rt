@@ -67,12 +67,19 @@ impl Sorted {
     }
 }
 
+/// The number of a shape's last board.
+pub(crate) fn last_board(shape: Shape) -> u16
+    ensures { result ≡ board_count shape.faults }
+{
+    shape.boards() as u16
+}
+
 /// Sorts the boards of a shape by whether they are taken away.
 pub(crate) fn present(heap: Global, away: Away, shape: Shape) -> Result<Sorted, AllocError>
     ensures { IfOk result (λ s. s.usable.items ≡ remaining away shape.faults (board_count shape.faults)) }
 {
     let mut sorted = Sorted::new(heap);
-    for board in 1..=shape.boards() as u16 {
+    for board in 1..=last_board(shape) {
         sorted.put(board, !away.takes(shape, board))?;
     }
     Ok(sorted)

@@ -24,10 +24,9 @@ impl Fetched {
     pub(crate) fn gives(&self, design: &[u8]) -> bool
         ensures { IsTrue result ↔ IsOkAnd self.now.design (λ given. given.items ≡ design.now) }
     {
-        match &self.design {
-            Ok(given) => given.as_slice() == design,
-            Err(_) => false,
-        }
+        self.design
+            .as_ref()
+            .is_ok_and(|given| given.as_slice() == design)
     }
 }
 

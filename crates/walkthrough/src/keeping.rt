@@ -1,13 +1,12 @@
 // What the boards keep of a design.
 ghost use Rattle.std.specs.Prelude.{◌≡◌, ◌↔◌, ◌-◌, ◌*◌, ◌<◌, ◌≤◌, ◌++◌, length, take, replicate, IsTrue, IfOk};
-ghost use Rattle.field.specs.Laws.{width};
-ghost use Rattle.shape.specs.Lengths.{fragment_length};
-ghost use Rattle.coding.specs.Commitment.{fragment_digest, vector_of};
+ghost use Rattle.coding.specs.Commitment.{entry, fragment_digest, vector_of};
+ghost use Rattle.coding.specs.Decoding.{held};
 ghost use Rattle.coding.specs.Shaped.{fragments_of, share_of};
 ghost use Rattle.walkthrough.specs.Blocks.{block_of};
 ghost use Rattle.elements.specs.Pieces.{piece};
 
-use crate::choices::Sorted;
+use crate::choices::{Sorted, last_board};
 use crate::shown::first;
 use coding::{commit, digest_of, encode_fragments, encode_share};
 use field::Field;
@@ -80,14 +79,9 @@ impl<F: Field, D: Hash> Kept<F, D> {
         })
     }
 
-    /// The boards by their numbers.
-    pub(crate) fn last_board(&self) -> u16 {
-        self.shape.boards() as u16
-    }
-
     /// A board's fragment.
     pub(crate) fn fragment(&self, board: u16) -> &[u8]
-        ensures { result.now ≡ piece (fragment_length (width F.arithmetic) self.now.shape.rows) self.now.fragments.items (board - 1) }
+        ensures { result.now ≡ held F.arithmetic self.now.shape self.now.fragments.items board }
     {
         part(
             self.fragments.as_slice(),
@@ -98,20 +92,22 @@ impl<F: Field, D: Hash> Kept<F, D> {
 
     /// A board's entry of the vector.
     pub(crate) fn entry(&self, board: u16) -> &[u8]
-        ensures { result.now ≡ piece 32 self.now.vector.items (board - 1) }
+        ensures { result.now ≡ entry self.now.vector.items board }
     {
         part(self.vector.as_slice(), 32, board)
     }
 
     /// The digest of a board's fragment as it is now.
-    pub(crate) fn digest(&self, board: u16) -> [u8; 32] {
+    pub(crate) fn digest(&self, board: u16) -> [u8; 32]
+        ensures { result ≡ fragment_digest D.hashes board (held F.arithmetic self.now.shape self.now.fragments.items board) }
+    {
         digest_of::<D>(board, self.fragment(board))
     }
 
     /// Sorts the boards by whether their fragments are good.
     pub(crate) fn examine(&self, heap: Global) -> Result<Sorted, AllocError> {
         let mut sorted = Sorted::new(heap);
-        for board in 1..=self.last_board() {
+        for board in 1..=last_board(self.shape) {
             sorted.put(
                 board,
                 matches::<D>(self.entry(board), board, self.fragment(board)),

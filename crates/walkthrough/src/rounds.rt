@@ -16,7 +16,7 @@ use std::{fmt, io};
 #[derive(Clone, Copy)]
 pub(crate) struct Round {
     /// t, how many boards may be missing or broken.
-    pub(crate) faults: usize,
+    pub(crate) faults: u8,
     pub(crate) field: FieldKind,
     pub(crate) hash: HashKind,
     pub(crate) away: Away,
@@ -55,8 +55,9 @@ impl Round {
 
     /// Tells the round over a field and by a hash.
     fn tell_by<F: Field, D: Hash>(&self, rt: &HostRuntime, design: &[u8]) -> io::Result<bool> {
-        let rows = rows_for(design.len(), self.faults.saturating_add(1));
-        let Some(shape) = Shape::new(self.faults, rows) else {
+        let faults = usize::from(self.faults);
+        let rows = rows_for(design.len(), faults + 1);
+        let Some(shape) = Shape::new(faults, rows) else {
             println!(rt;
                 "    refused     a block has at most 512 rows, and the design needs {rows}"
             )?;

@@ -1,4 +1,5 @@
 // What is printed of a round.
+use crate::choices::last_board;
 use crate::fetching::Fetched;
 use crate::keeping::Kept;
 use crate::shown::{Boards, Start, first, spaced, whole};
@@ -48,7 +49,7 @@ pub(crate) fn tell_fragments<F: Field, D: Hash>(
     shown: usize,
     kept: &Kept<F, D>,
 ) -> io::Result<()> {
-    for board in 1..=kept.last_board() {
+    for board in 1..=last_board(kept.shape) {
         tell_fragment(
             rt,
             "    board   ",
