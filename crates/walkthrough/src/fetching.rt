@@ -47,12 +47,7 @@ pub(crate) fn fetch<F: Field, D: Hash>(
     } = boards;
     used.truncate(kept.shape.row_bytes());
     let mut block = vec![in heap; 0; kept.shape.block_bytes()]?;
-    let answer = decode::<F>(
-        kept.shape,
-        kept.fragments.as_slice(),
-        used.as_slice(),
-        block.as_mut_slice(),
-    );
+    let answer = decode::<F>(kept.shape, &kept.fragments, &used, &mut block);
     block.truncate(size);
     Ok(Fetched {
         left_out,

@@ -64,11 +64,11 @@ impl<F: Field, D: Hash> Kept<F, D> {
         let mut fragments = vec![in heap; 0; shape.boards() * shape.fragment_bytes::<F>()]?;
         let mut vector = vec![in heap; 0; shape.vector_bytes()]?;
         let mut share = vec![in heap; 0; shape.share_bytes::<F>()]?;
-        let cut = encode_fragments::<F>(shape, block.as_slice(), fragments.as_mut_slice());
+        let cut = encode_fragments::<F>(shape, &block, &mut fragments);
         prove!(cut);
-        let committed = commit::<F, D>(shape, fragments.as_slice(), vector.as_mut_slice());
+        let committed = commit::<F, D>(shape, &fragments, &mut vector);
         prove!(committed);
-        let shared = encode_share::<F>(shape, vector.as_slice(), 1, share.as_mut_slice());
+        let shared = encode_share::<F>(shape, &vector, 1, &mut share);
         prove!(shared);
         Ok(Kept {
             shape,
@@ -83,18 +83,14 @@ impl<F: Field, D: Hash> Kept<F, D> {
     pub(crate) fn fragment(&self, board: u16) -> &[u8]
         ensures { result.now ≡ held F.arithmetic self.now.shape self.now.fragments.items board }
     {
-        part(
-            self.fragments.as_slice(),
-            self.shape.fragment_bytes::<F>(),
-            board,
-        )
+        part(&self.fragments, self.shape.fragment_bytes::<F>(), board)
     }
 
     /// A board's entry of the vector.
     pub(crate) fn entry(&self, board: u16) -> &[u8]
         ensures { result.now ≡ entry self.now.vector.items board }
     {
-        part(self.vector.as_slice(), 32, board)
+        part(&self.vector, 32, board)
     }
 
     /// The digest of a board's fragment as it is now.

@@ -87,8 +87,7 @@ const ROUNDS: [Round; 8] = [
 /// Reads the whole design from standard input.
 fn read_design(rt: &HostRuntime) -> io::Result<Vec<u8>> {
     let mut design = Vec::new(rt.alloc());
-    let mut input = rt.stdin();
-    input.read_to_end(&mut design)?;
+    rt.stdin().read_to_end(&mut design)?;
     Ok(design)
 }
 
@@ -132,11 +131,11 @@ fn tell_rounds(rt: &HostRuntime, design: &[u8]) -> io::Result<Vec<bool>> {
 /// Tells all that happens, and how many rounds gave the design back.
 fn run(rt: &HostRuntime) -> io::Result<()> {
     let design = read_design(rt)?;
-    tell_words(rt, design.as_slice())?;
-    let answers = tell_rounds(rt, design.as_slice())?;
+    tell_words(rt, &design)?;
+    let answers = tell_rounds(rt, &design)?;
     println!(rt;
         "\n{} of {} rounds gave the design back",
-        yes_count(answers.as_slice()),
+        yes_count(&answers),
         answers.len()
     )
 }

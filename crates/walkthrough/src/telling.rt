@@ -58,10 +58,7 @@ pub(crate) fn tell_fragments<F: Field, D: Hash>(
             first(kept.entry(board), shown),
         )?;
     }
-    println!(rt;
-        "    share of 1  {}",
-        spaced(first(kept.share.as_slice(), 8))
-    )
+    println!(rt; "    share of 1  {}", spaced(first(&kept.share, 8)))
 }
 
 /// Why nothing was given back.
@@ -82,8 +79,8 @@ pub(crate) fn tell_fetch(
 ) -> io::Result<bool> {
     println!(rt;
         "{label}{}; used:{}",
-        Boards(fetched.left_out.as_slice()),
-        Boards(fetched.used.as_slice())
+        Boards(&fetched.left_out),
+        Boards(&fetched.used)
     )?;
     let is_back = fetched.gives(design);
     let end = if is_back {
@@ -92,7 +89,7 @@ pub(crate) fn tell_fetch(
         ", NOT equal to the input"
     };
     match &fetched.design {
-        Ok(given) => println!(rt; "    given back  {}{end}", Start(given.as_slice()))?,
+        Ok(given) => println!(rt; "    given back  {}{end}", Start(given))?,
         Err(why) => println!(rt; "    given back  nothing: {}", reason(why))?,
     }
     Ok(is_back)
