@@ -7,8 +7,8 @@ ghost use Rattle.walkthrough.specs.Blocks.{block_of};
 ghost use Rattle.elements.specs.Pieces.{piece};
 
 use crate::choices::{Sorted, last_board};
-use crate::shown::first;
 use coding::{commit, digest_of, encode_fragments, encode_share};
+use elements::piece_at;
 use field::Field;
 use hash::Hash;
 use shape::Shape;
@@ -43,15 +43,6 @@ fn matches<D: Hash>(entry: &[u8], board: u16, fragment: &[u8]) -> bool
     entry == digest_of::<D>(board, fragment).as_slice()
 }
 
-/// The part of a board among parts of one size, board 1's first; nothing where it has none.
-fn part(parts: &[u8], size: usize, board: u16) -> &[u8]
-    requires { size ≤ 1024 }
-    ensures { result.now ≡ piece size parts.now (board - 1) }
-{
-    let from = usize::from(board).saturating_sub(1) * size;
-    first(parts.get(from..).unwrap_or(&[]), size)
-}
-
 impl<F: Field, D: Hash> Kept<F, D> {
     /// Gives each board its fragment of the design and its share of the vector.
     pub(crate) fn new(heap: Global, shape: Shape, design: &[u8]) -> Result<Self, AllocError>
@@ -64,12 +55,9 @@ impl<F: Field, D: Hash> Kept<F, D> {
         let mut fragments = vec![in heap; 0; shape.boards() * shape.fragment_bytes::<F>()]?;
         let mut vector = vec![in heap; 0; shape.vector_bytes()]?;
         let mut share = vec![in heap; 0; shape.share_bytes::<F>()]?;
-        let cut = encode_fragments::<F>(shape, &block, &mut fragments);
-        prove!(cut);
-        let committed = commit::<F, D>(shape, &fragments, &mut vector);
-        prove!(committed);
-        let shared = encode_share::<F>(shape, &vector, 1, &mut share);
-        prove!(shared);
+        encode_fragments::<F>(shape, &block, &mut fragments).unwrap();
+        commit::<F, D>(shape, &fragments, &mut vector).unwrap();
+        encode_share::<F>(shape, &vector, 1, &mut share).unwrap();
         Ok(Kept {
             shape,
             fragments,
@@ -83,14 +71,18 @@ impl<F: Field, D: Hash> Kept<F, D> {
     pub(crate) fn fragment(&self, board: u16) -> &[u8]
         ensures { result.now ≡ held F.arithmetic self.now.shape self.now.fragments.items board }
     {
-        part(&self.fragments, self.shape.fragment_bytes::<F>(), board)
+        piece_at(
+            &self.fragments,
+            self.shape.fragment_bytes::<F>(),
+            usize::from(board).saturating_sub(1),
+        )
     }
 
     /// A board's entry of the vector.
     pub(crate) fn entry(&self, board: u16) -> &[u8]
         ensures { result.now ≡ entry self.now.vector.items board }
     {
-        part(&self.vector, 32, board)
+        piece_at(&self.vector, 32, usize::from(board).saturating_sub(1))
     }
 
     /// The digest of a board's fragment as it is now.

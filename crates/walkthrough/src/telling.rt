@@ -3,7 +3,6 @@ use crate::choices::last_board;
 use crate::fetching::Fetched;
 use crate::keeping::Kept;
 use crate::shown::{Boards, Start, first, spaced, whole};
-use coding::Undecodable;
 use field::Field;
 use hash::Hash;
 use shape::Shape;
@@ -61,15 +60,6 @@ pub(crate) fn tell_fragments<F: Field, D: Hash>(
     println!(rt; "    share of 1  {}", spaced(first(&kept.share, 8)))
 }
 
-/// Why nothing was given back.
-fn reason(answer: &Undecodable) -> &'static str {
-    match answer {
-        Undecodable::Unfit => "a length or the boards do not fit",
-        Undecodable::Overrun => "a fragment holds a number that the field does not have",
-        Undecodable::Unreadable => "the fragments are those of no block",
-    }
-}
-
 /// Tells which boards were used and what came of it, and says whether the design came back.
 pub(crate) fn tell_fetch(
     rt: &HostRuntime,
@@ -90,7 +80,7 @@ pub(crate) fn tell_fetch(
     };
     match &fetched.design {
         Ok(given) => println!(rt; "    given back  {}{end}", Start(given))?,
-        Err(why) => println!(rt; "    given back  nothing: {}", reason(why))?,
+        Err(why) => println!(rt; "    given back  nothing: {why}")?,
     }
     Ok(is_back)
 }
