@@ -3,32 +3,25 @@ use coding::{
     Undecodable, Unencodable, commit, decode, digest_of, encode_fragment, encode_fragments,
     encode_share,
 };
-use elements::{overrun, read_element, write_element};
+use elements::{Unwritten, overrun, read_element, write_element};
 use field::Field;
 use field256::Field256;
 use field257::Field257;
 use hash::{Fold, Sha256};
 use polynomial::Basis;
 use shape::Shape;
+use std::array;
 use std::process::Abort;
 use std::test::Fail;
 
 /// The bytes i * i + 7 i + 1 modulo 256.
 fn large_design() -> [u8; 3072] {
-    let mut design = [0; 3072];
-    for (i, byte) in design.iter_mut().enumerate() {
-        *byte = ((i * i + 7 * i + 1) % 256) as u8;
-    }
-    design
+    array::from_fn(|i| ((i * i + 7 * i + 1) % 256) as u8)
 }
 
 /// The bytes 11 i + 5 modulo 256.
 fn some_vector() -> [u8; 224] {
-    let mut vector = [0; 224];
-    for (i, byte) in vector.iter_mut().enumerate() {
-        *byte = ((11 * i + 5) % 256) as u8;
-    }
-    vector
+    array::from_fn(|i| ((11 * i + 5) % 256) as u8)
 }
 
 #[test]
@@ -199,10 +192,14 @@ fn elements(rt: HostRuntime) {
     assert_eq!(rt; overrun::<Field257>(&[0, 8, 1, 0, 1, 1]), Some(2));
     assert_eq!(rt; overrun::<Field256>(&[0, 8, 1, 255]), None);
     let mut part = [9; 5];
-    assert!(rt;
-        write_element::<Field257>(&mut part, 1, 256)
-            && !write_element::<Field257>(&mut part, 2, 1)
-            && !write_element::<Field257>(&mut part, 0, 257)
+    assert_eq!(rt; write_element::<Field257>(&mut part, 1, 256), Ok(()));
+    assert_eq!(rt;
+        write_element::<Field257>(&mut part, 2, 1),
+        Err(Unwritten::Outside)
+    );
+    assert_eq!(rt;
+        write_element::<Field257>(&mut part, 0, 257),
+        Err(Unwritten::Overrun)
     );
     assert_eq!(rt; part, [9, 9, 1, 0, 9]);
 }
