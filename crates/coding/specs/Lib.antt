@@ -3,3 +3,4 @@ pub mod Shaped
 pub mod Decoding
 pub mod Commitment
 pub mod Choice
+pub mod Pieced

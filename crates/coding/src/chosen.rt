@@ -7,6 +7,7 @@ ghost use Rattle.coding.specs.Decoding.{are_chosen, Sound};
 ghost use Rattle.coding.specs.Shaped.{fragments_length, is_block};
 
 use crate::fragments::Fragments;
+use crate::pieces::write_pieces;
 use elements::read_element;
 use field::Field;
 use polynomial::{Basis, rising};
@@ -113,6 +114,18 @@ impl<'a, F: Field> Rows<'a, F> {
         (0..self.chosen.fragments.shape.rows).all(|i| self.row_is_bytes(i))
     }
 
+    /// Writes the coefficients of row `i`, which are bytes.
+    fn write_row(&self, i: usize, part: &mut [u8])
+        requires inside { i < self.now.chosen.fragments.shape.rows }
+        requires bytes { Bytes (row_at F.arithmetic F.inverted self.now.chosen i) }
+        requires room { length part.old ≡ length self.now.chosen.boards.now }
+        ensures { part.new ≡ row_at F.arithmetic F.inverted self.now.chosen i }
+    {
+        for (k, code) in self.row(i)[..part.len()].iter().enumerate() {
+            part[k] = *code as u8;
+        }
+    }
+
     /// Writes the coefficients of every row, which are bytes, as a block.
     pub(crate) fn write_to(&self, block: &mut [u8])
         requires bytes { Bytes (rows_in F.arithmetic F.inverted self.now.chosen) }
@@ -120,21 +133,8 @@ impl<'a, F: Field> Rows<'a, F> {
         ensures { block.new ≡ rows_in F.arithmetic F.inverted self.now.chosen }
     {
         let count = self.chosen.boards.len();
-        for i in 0..self.chosen.fragments.shape.rows {
-            let row = self.row(i);
-            let from = i * count;
-            write_bytes(&row[..count], &mut block[from..from + count]);
-        }
-    }
-}
-
-/// Writes codes that are bytes.
-fn write_bytes(codes: &[u16], part: &mut [u8])
-    requires bytes { Bytes codes.now }
-    requires room { length part.old ≡ length codes.now }
-    ensures { part.new ≡ codes.now }
-{
-    for (i, code) in codes.iter().enumerate() {
-        part[i] = *code as u8;
+        write_pieces(block, count, self.chosen.fragments.shape.rows, |i, part| {
+            self.write_row(i, part)
+        });
     }
 }

@@ -1,10 +1,11 @@
 // The commitment vector, by which a board's fragment is told from any other.
-ghost use Rattle.std.specs.Prelude.{◌≡◌, true, OnOk, OnErr};
+ghost use Rattle.std.specs.Prelude.{◌≡◌, ◌<◌, length, true, OnOk, OnErr};
 ghost use Rattle.coding.specs.Commitment.{fragment_digest, vector_of, vector_fits};
 ghost use Rattle.coding.specs.Shaped.{answered};
 
 use crate::encoding::Unencodable;
 use crate::fragments::Fragments;
+use crate::pieces::write_pieces;
 use field::Field;
 use hash::Hash;
 use shape::Shape;
@@ -30,10 +31,13 @@ pub fn commit<F: Field, D: Hash>(
     if vector.len() != shape.vector_bytes() {
         return Err(Unencodable::Length);
     }
-    for i in 0..shape.boards() {
+    let write = |i: usize, entry: &mut [u8]|
+        requires board { i < 16 }
+        requires room { length entry.now ≡ 32 }
+    {
         let board = i as u16 + 1;
-        let entry = &mut vector[i * 32..i * 32 + 32];
         entry.copy_from_slice(&digest_of::<D>(board, held.of(board)));
-    }
+    };
+    write_pieces(vector, 32, shape.boards(), write);
     Ok(())
 }

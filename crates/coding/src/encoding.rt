@@ -5,6 +5,7 @@ ghost use Rattle.shape.specs.Lengths.{is_board, row_length};
 ghost use Rattle.coding.specs.Code.{coded, SharesFixVectors};
 ghost use Rattle.coding.specs.Shaped.{answered, fragment_fits, share_fits, fragments_fit, fragment_of, share_of, fragments_of, fragments_length};
 
+use crate::pieces::write_pieces;
 use elements::{piece_at, write_element};
 use field::Field;
 use polynomial::value_at;
@@ -24,9 +25,9 @@ fn encode_rows<F: Field>(k: usize, rows: usize, source: &[u8], code: u16, part: 
     requires { length part.old ≡ rows * width F.arithmetic }
     ensures { part.new ≡ coded F.arithmetic k rows source.now code }
 {
-    for i in 0..rows {
-        let _ = write_element::<F>(part, i, value_at::<F>(piece_at(source, k, i), code));
-    }
+    write_pieces(part, F::WIDTH, rows, |i, element| {
+        let _ = write_element::<F>(element, 0, value_at::<F>(piece_at(source, k, i), code));
+    });
 }
 
 /// Writes what a board holds of a source of `bytes` bytes in `rows` rows: a fragment and a share differ in these sizes alone.
@@ -98,10 +99,9 @@ pub fn encode_fragments<F: Field>(
     if block.len() != shape.block_bytes() || memory.len() < count * size {
         return Err(Unencodable::Length);
     }
-    for i in 0..count {
-        let from = i * size;
-        let part = &mut memory[from..from + size];
-        encode_rows::<F>(shape.row_bytes(), shape.rows, block, i as u16 + 1, part);
-    }
+    let k = shape.row_bytes();
+    write_pieces(memory, size, count, |i, part| {
+        encode_rows::<F>(k, shape.rows, block, i as u16 + 1, part)
+    });
     Ok(())
 }

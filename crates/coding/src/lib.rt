@@ -6,6 +6,7 @@ mod commitment;
 mod decoding;
 mod encoding;
 mod fragments;
+mod pieces;
 
 pub use commitment::{commit, digest_of};
 pub use decoding::{Undecodable, decode};
