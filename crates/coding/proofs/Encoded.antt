@@ -1,7 +1,7 @@
 -- What a board holds of a byte string: row by row, as the code writes it.
-use Rattle.std.proofs.Common.{◌≡◌, ℕ, zero, suc, ◌+◌, ◌-◌, ◌*◌, ◌/◌, ◌<◌, ◌≤◌, Bool, true, false, ◌&&◌, ◌↔◌, Ok, Err, Result, OnOk, List, [], ◌∷◌, ◌++◌, length, take, drop, replicate, sym, refl, ap, ◌∙◌, ⊎_elim, one-mul, zero-mul, append-nil, arith}
+use Rattle.std.proofs.Common.{◌≡◌, ℕ, zero, suc, ◌+◌, ◌-◌, ◌*◌, ◌/◌, ◌<◌, ◌≤◌, Bool, true, false, ◌&&◌, ◌↔◌, Ok, Err, Result, OnOk, List, [], ◌∷◌, ◌++◌, length, take, drop, replicate, sym, refl, ap, ◌∙◌, ⊎_elim, zero-mul, append-nil, arith}
 use Rattle.std.proofs.lemmas.List.{length-replicate, take_all, drop_all, take-replicate, drop-replicate}
-use Rattle.std.proofs.lemmas.Nat.{div-mul-add}
+use Rattle.std.proofs.Math.Nat.{div_self}
 use Rattle.std.proofs.lemmas.Bool.{cases_lt}
 use Rattle.field.proofs.Widths.{width_least}
 use Rattle.field.specs.Laws.{Arithmetic, RingLaws, width}
@@ -43,12 +43,6 @@ coded-filled R L k q n xs j hj =
 pub coded-length : (R : Arithmetic) (k q : ℕ) (xs : List ℕ) (j : ℕ) → length (coded R k q xs j) ≡ q * width R
 coded-length R k q xs j = length-laid (λ i. written (width R) (eval R (piece k xs i) j)) (width R) q (λ i h. written-length (width R) (eval R (piece k xs i) j))
 
-part_elements : (R : Arithmetic) (rows : ℕ) (part : List ℕ) → length part ≡ rows * width R → length part / width R ≡ rows
-part_elements R rows part long =
-    let w = width_least R in
-    let e : length part ≡ rows * width R + 0 = omega arith in
-    ap (λ n. n / width R) e ∙ div-mul-add rows (width R) 0 (omega arith)
-
 -- A code is written where its element is the whole part.
 pub element-put : (R : Arithmetic) (v : ℕ) (part now : List ℕ) (r : Result (Unit {0}) Unwritten) → length part ≡ width R → v < R.size →
     (r ≡ Err Outside ↔ length part / width R ≤ 0) → (r ≡ Err Overrun ↔ (0 < length part / width R) × (R.size ≤ v)) →
@@ -60,7 +54,7 @@ element-put R v part now (Ok _) long code outside overrun is =
     ∙ ap (λ a. put part a new) (zero-mul w)
     ∙ ap (λ l. new ++ l) (drop_all (0 + length new) part (omega (arith, written-length w v)))
     ∙ append-nil new
-element-put R v part now (Err Outside) long code outside overrun is = let past = outside.0 refl in absurd (omega (arith, part_elements R 1 part (long ∙ sym (one-mul (width R)))))
+element-put R v part now (Err Outside) long code outside overrun is = let past = outside.0 refl in absurd (omega (arith, ap (λ n. n / width R) long ∙ div_self (width_least R)))
 element-put R v part now (Err Overrun) long code outside overrun is = let over = (overrun.0 refl).1 in absurd (omega arith)
 
 -- What is known of an answer that nothing refused.

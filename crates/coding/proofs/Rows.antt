@@ -66,8 +66,8 @@ pub row_long : (R : Arithmetic) (inv : ℕ → ℕ) (s : Shape) (fragments js : 
 row_long R inv s fragments js i = interpolated-length R inv js (map (λ j. element R (held R s fragments j) i) js) (length-map js (λ j. element R (held R s fragments j) i))
 
 -- If all coefficients are bytes, those of each row are.
-pub row-bytes : (R : Arithmetic) (inv : ℕ → ℕ) (s : Shape) (fragments js : List ℕ) (i : ℕ) → i < s.rows → Bytes (coefficients R inv s fragments js) → Bytes (row_coefficients R inv s fragments js i)
-row-bytes R inv s fragments js i h all =
+pub bytes_row : (R : Arithmetic) (inv : ℕ → ℕ) (s : Shape) (fragments js : List ℕ) (i : ℕ) → i < s.rows → Bytes (coefficients R inv s fragments js) → Bytes (row_coefficients R inv s fragments js i)
+bytes_row R inv s fragments js i h all =
     let row : ℕ → List ℕ = row_coefficients R inv s fragments js in
     let w = length js in
     subst Bytes (piece-laid row w s.rows i h (λ i h. row_long R inv s fragments js i))
@@ -93,7 +93,7 @@ rows_decided R inv s fragments js true all = (
 rows_decided R inv s fragments js false one =
     let h : one.0 < s.rows = omega (arith, one.1, length-range_with_len 0 s.rows) in
     decided_not (Bytes (coefficients R inv s fragments js))
-    (λ all. one.2 0 (subst (λ k. Bytes (row_coefficients R inv s fragments js k)) (sym (get_or-range_with_len 0 s.rows one.0 0 h ∙ zero-add one.0)) (row-bytes R inv s fragments js one.0 h all)))
+    (λ all. one.2 0 (subst (λ k. Bytes (row_coefficients R inv s fragments js k)) (sym (get_or-range_with_len 0 s.rows one.0 0 h ∙ zero-add one.0)) (bytes_row R inv s fragments js one.0 h all)))
 
 module _ (R : Arithmetic) (inv : ℕ → ℕ) (xs : List ℕ) (r : Option Basis) (made : MatchOption r (admitted R xs ≡ false) (λ b. (admitted R xs ≡ true) × BasisOf R inv xs b)) (yes! : admitted R xs ≡ true) where
   -- There is a basis at codes that are admitted.

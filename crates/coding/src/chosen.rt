@@ -127,6 +127,7 @@ impl<'a, F: Field> Rows<'a, F> {
     }
 
     /// Writes the coefficients of every row, which are bytes, as a block.
+    #[tactic(auto, using(crate::proofs::Rows::bytes_row))]
     pub(crate) fn write_to(&self, block: &mut [u8])
         requires bytes { Bytes (rows_in F.arithmetic F.inverted self.now.chosen) }
         requires room { is_block self.now.chosen.fragments.shape block.old ≡ true }
