@@ -1,13 +1,10 @@
-use Rattle.std.proofs.Common.{◌*◌, ap, ◌∙◌, arith}
+use Rattle.std.proofs.Common.{◌*◌, ap, ◌∙◌}
 use Rattle.shape.specs.Lengths.{row_length, share_rows}
 use Rattle.coding.specs.Code.{coded}
 use Rattle.coding.proofs.Decoded.{shares_fix_vectors}
 use Rattle.coding.proofs.Encoded.{coded-filled, when_fit}
-use Rattle.coding.proofs.Sizes.{share_rows_few, board-code}
+use Rattle.coding.proofs.Sizes.{board-code}
 use Rattle.coding.proofs.encoding.encode_share.Goals as goal
-
-pub encode-requires : goal.encode-requires
-encode-requires g c = omega (arith, c.share_rows-rows.ensures, share_rows_few c.args.shape.faults c.args.shape.faults_least c.args.shape.faults_most)
 
 pub returns-clause-part : goal.returns-clause-part
 returns-clause-part g c =

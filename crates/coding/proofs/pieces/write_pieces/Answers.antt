@@ -1,7 +1,5 @@
-use Rattle.std.proofs.Common.{◌≡◌, ◌+◌, ◌-◌, ◌*◌, ◌++◌, ap, ◌∙◌, append-nil, arith}
-use Rattle.std.proofs.lemmas.List.{drop_all}
+use Rattle.std.proofs.Common.{◌+◌, ◌-◌, ◌*◌, ◌∙◌, arith}
 use Rattle.std.proofs.lemmas.List.Edits.{length-between}
-use Rattle.elements.specs.Pieces.{laid}
 use Rattle.elements.proofs.Pieces.{laid_start, laid_part, piece_end}
 use Rattle.coding.proofs.pieces.write_pieces.Goals as goal
 
@@ -15,10 +13,3 @@ loop-i-preserved g c piece leaves =
     let e = piece_end i c.args.count size c.loop-i-test.true in
     laid_part piece size i (i * size + size - i * size) c.args.place.now c.loop-i.place c.write.new.arg3 leaves.long (omega arith) (omega arith)
     (c.loop-i.invariant piece leaves) (leaves.left i _ _ c.loop-i-test.true (length-between c.loop-i.place (i * size) (i * size + size) (omega arith) ∙ omega arith) c.write.ensures)
-
-pub returns-clause-whole : goal.returns-clause-whole
-returns-clause-whole g c piece leaves long =
-    let end : c.loop-i.i ≡ c.args.count = omega arith in
-    c.loop-i.invariant piece leaves
-    ∙ ap (λ l. laid piece c.loop-i.i ++ l) (drop_all (c.loop-i.i * c.args.size) c.args.place.now (omega (arith, ap (λ n. n * c.args.size) end)))
-    ∙ append-nil (laid piece c.loop-i.i) ∙ ap (laid piece) end
