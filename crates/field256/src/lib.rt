@@ -3,12 +3,24 @@
 
 mod tables;
 
-ghost use Rattle.std.specs.Prelude.{refl};
+ghost use Rattle.std.specs.Prelude.{◌≡◌, ◌<◌, ◌≤◌, ◌⊎◌, refl};
 ghost use Rattle.field256.specs.Gf256.{arithmetic, inverted};
 ghost use Rattle.field256.specs.Laws;
 
 use field::Field;
 use tables::{inverse_of, logarithm, power_of_three};
+
+/// The operation's answer to two codes, which are the bytes, and 0 to anything else.
+fn on_bytes<O: FnOnce(u8, u8) -> u8 + Drop>(a: u16, b: u16, operation: O) -> u16
+    requires callable { a < 256 → b < 256 → O.pre operation a b }
+    ensures codes { a < 256 → b < 256 → O.post operation a b result }
+    ensures others { (256 ≤ a) ⊎ (256 ≤ b) → result ≡ 0 }
+{
+    match (u8::try_from(a), u8::try_from(b)) {
+        (Ok(a), Ok(b)) => u16::from(operation(a, b)),
+        _ => 0,
+    }
+}
 
 /// The field whose codes are the bytes, each the polynomial of which its bits are the coefficients.
 pub struct Field256;
@@ -37,10 +49,7 @@ impl Field for Field256 {
 
     /// Coefficients are added each by itself, modulo 2.
     fn sum(a: u16, b: u16) -> u16 {
-        match (u8::try_from(a), u8::try_from(b)) {
-            (Ok(a), Ok(b)) => u16::from(a ^ b),
-            _ => 0,
-        }
+        on_bytes(a, b, |a, b| a ^ b)
     }
 
     /// Every element is its own negative, so a difference is a sum.
@@ -49,11 +58,9 @@ impl Field for Field256 {
     }
 
     /// The power of the sum of the logarithms; that of the code 0 is so large that the power is then 0.
+    #[tactic(auto, using(crate::proofs::Logarithms::by_logarithms))]
     fn product(a: u16, b: u16) -> u16 {
-        match (u8::try_from(a), u8::try_from(b)) {
-            (Ok(a), Ok(b)) => u16::from(power_of_three(logarithm(a) + logarithm(b))),
-            _ => 0,
-        }
+        on_bytes(a, b, |a, b| power_of_three(logarithm(a) + logarithm(b)))
     }
 
     /// The inverse is read from its table.

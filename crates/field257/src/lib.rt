@@ -52,7 +52,7 @@ pub struct Field257;
 /// The operations of numbers, each with the remainder of its result.
 impl Field for Field257 {
     /// Each remainder is a code.
-    const SIZE: u32 = PRIME as u32;
+    const SIZE: u32 = 257;
 
     /// One code is no byte, so each takes two.
     const WIDTH: usize = 2;
