@@ -4,7 +4,7 @@
 ghost use Rattle.std.specs.Prelude.{◌≡◌, ◌+◌, ◌*◌, ◌/◌, ◌<◌, ◌≤◌, ◌&&◌, length, if◌then◌else◌, Some, None, nat_lt, Err, ◌↔◌, OnOk, OnErr};
 ghost use Rattle.field.specs.Laws.{width};
 ghost use Rattle.elements.specs.Pieces.{piece, put};
-ghost use Rattle.elements.specs.Numbers.{written};
+ghost use Rattle.elements.specs.Numbers.{number, written};
 ghost use Rattle.elements.specs.Element.{element, FirstOverrun};
 
 use field::Field;
@@ -18,11 +18,12 @@ pub enum Unwritten {
     Overrun,
 }
 
-/// The number that the bytes of element `i` write, whether it is a code or not; bytes that the part does not have count for nothing.
-fn number_at<F: Field>(part: &[u8], i: usize) -> u16
-    ensures { result ≡ element F.arithmetic part.now i }
+/// The number that the bytes of an element write, whether it is a code or not; of no bytes, 0.
+fn number_of(element: &[u8]) -> u16
+    requires { length element.now ≤ 2 }
+    ensures { result ≡ number element.now }
 {
-    match piece_at(part, F::WIDTH, i) {
+    match element {
         [byte] => u16::from(*byte),
         [high, low] => u16::from_be_bytes([*high, *low]),
         _ => 0,
@@ -33,8 +34,12 @@ fn number_at<F: Field>(part: &[u8], i: usize) -> u16
 pub fn read_element<F: Field>(part: &[u8], i: usize) -> Option<u16>
     ensures { result ≡ (if nat_lt i (length part.now / width F.arithmetic) && nat_lt (element F.arithmetic part.now i) F.arithmetic.size then Some (element F.arithmetic part.now i) else None) }
 {
-    let value = number_at::<F>(part, i);
-    (i < part.len() / F::WIDTH && u32::from(value) < F::SIZE).then_some(value)
+    if i >= part.len() / F::WIDTH {
+        return None;
+    }
+    let from = i * F::WIDTH;
+    let value = number_of(&part[from..from + F::WIDTH]);
+    (u32::from(value) < F::SIZE).then_some(value)
 }
 
 /// Writes `value` as element `i` of a part, and leaves the part as found where it cannot.
@@ -59,7 +64,8 @@ pub fn write_element<F: Field>(part: &mut [u8], i: usize, value: u16) -> Result<
 pub fn overrun<F: Field>(part: &[u8]) -> Option<usize>
     ensures { FirstOverrun F.arithmetic part.now (length part.now / width F.arithmetic) result }
 {
-    (0..part.len() / F::WIDTH).find(|i| u32::from(number_at::<F>(part, *i)) >= F::SIZE)
+    (0..part.len() / F::WIDTH).find(|i| u32::from(number_of(piece_at(part, F::WIDTH, *i)))
+        >= F::SIZE)
 }
 
 /// Piece `i` of a byte string in pieces of `size` bytes: one that the string's end cuts is shorter, and one past it empty.
