@@ -48,14 +48,10 @@ pub(crate) fn tell_fragments<F: Field, D: Hash>(
     shown: usize,
     kept: &Kept<F, D>,
 ) -> io::Result<()> {
-    for board in 1..=last_board(kept.shape) {
-        tell_fragment(
-            rt,
-            "    board   ",
-            board,
-            kept.fragment(board),
-            first(kept.entry(board), shown),
-        )?;
+    let fragments = kept.fragments.chunks(kept.shape.fragment_bytes::<F>());
+    let entries = kept.vector.chunks(32);
+    for (board, (fragment, entry)) in (1..=last_board(kept.shape)).zip(fragments.zip(entries)) {
+        tell_fragment(rt, "    board   ", board, fragment, first(entry, shown))?;
     }
     println!(rt; "    share of 1  {}", spaced(first(&kept.share, 8)))
 }
