@@ -1,7 +1,7 @@
 // Which boards a round does without, and how many rows a design takes.
-ghost use Rattle.std.specs.Prelude.{◌≡◌, ℕ, ◌*◌, ◌<◌, ◌≤◌, [], ◌∷◌, ◌++◌, IfOk, if◌then◌else◌, count_by, OnOk};
+ghost use Rattle.std.specs.Prelude.{◌≡◌, ℕ, ◌*◌, ◌<◌, ◌≤◌, Bool, not, IfOk, count_by};
 ghost use Rattle.shape.specs.Lengths.{board_count};
-ghost use Rattle.walkthrough.specs.Taken.{taken, remaining};
+ghost use Rattle.walkthrough.specs.Taken.{taken, passing, AnswersAs, remaining};
 
 use shape::Shape;
 use std::alloc::{AllocError, Global};
@@ -42,28 +42,28 @@ pub(crate) struct Sorted {
 }
 
 impl Sorted {
-    /// No boards.
-    pub(crate) fn new(heap: Global) -> Sorted
-        ensures usable { result.usable.items ≡ [] }
-        ensures left { result.left_out.items ≡ [] }
+    /// Sorts the boards of a shape, in rising order, by a test of each.
+    pub(crate) fn by<T: Fn(u16) -> bool>(
+        heap: Global,
+        shape: Shape,
+        is_usable: T,
+    ) -> Result<Sorted, AllocError>
+        requires callable { T.IsAlwaysCallable is_usable }
+        ensures usable { (test : ℕ → Bool) → AnswersAs T.Fn is_usable test (board_count shape.faults) → IfOk result (λ s. s.usable.items ≡ passing test (board_count shape.faults)) }
+        ensures left { (test : ℕ → Bool) → AnswersAs T.Fn is_usable test (board_count shape.faults) → IfOk result (λ s. s.left_out.items ≡ passing (λ j. not (test j)) (board_count shape.faults)) }
     {
-        Sorted {
+        let mut sorted = Sorted {
             usable: Vec::new(heap),
             left_out: Vec::new(heap),
+        };
+        for board in 1..=last_board(shape) {
+            if is_usable(board) {
+                sorted.usable.push(board)?;
+            } else {
+                sorted.left_out.push(board)?;
+            }
         }
-    }
-
-    /// Puts a board to those that may be used, or to those that are left out.
-    pub(crate) fn put(&mut self, board: u16, usable: bool) -> Result<(), AllocError>
-        ensures usable { OnOk result (self.new.usable.items ≡ self.old.usable.items ++ (if usable then board ∷ [] else [])) }
-        ensures left { OnOk result (self.new.left_out.items ≡ self.old.left_out.items ++ (if usable then [] else board ∷ [])) }
-    {
-        if usable {
-            self.usable.push(board)?;
-        } else {
-            self.left_out.push(board)?;
-        }
-        Ok(())
+        Ok(sorted)
     }
 }
 
@@ -78,11 +78,7 @@ pub(crate) fn last_board(shape: Shape) -> u16
 pub(crate) fn present(heap: Global, away: Away, shape: Shape) -> Result<Sorted, AllocError>
     ensures { IfOk result (λ s. s.usable.items ≡ remaining away shape.faults (board_count shape.faults)) }
 {
-    let mut sorted = Sorted::new(heap);
-    for board in 1..=last_board(shape) {
-        sorted.put(board, !away.takes(shape, board))?;
-    }
-    Ok(sorted)
+    Sorted::by(heap, shape, |board| !away.takes(shape, board))
 }
 
 /// How many rows of `row` bytes hold `length` bytes: at least one, and no more than needed.

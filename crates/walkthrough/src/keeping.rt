@@ -6,7 +6,7 @@ ghost use Rattle.coding.specs.Shaped.{fragments_of, share_of};
 ghost use Rattle.walkthrough.specs.Blocks.{block_of};
 ghost use Rattle.elements.specs.Pieces.{piece};
 
-use crate::choices::{Sorted, last_board};
+use crate::choices::Sorted;
 use coding::{commit, digest_of, encode_fragments, encode_share};
 use elements::piece_at;
 use field::Field;
@@ -94,14 +94,9 @@ impl<F: Field, D: Hash> Kept<F, D> {
 
     /// Sorts the boards by whether their fragments are good.
     pub(crate) fn examine(&self, heap: Global) -> Result<Sorted, AllocError> {
-        let mut sorted = Sorted::new(heap);
-        for board in 1..=last_board(self.shape) {
-            sorted.put(
-                board,
-                matches::<D>(self.entry(board), board, self.fragment(board)),
-            )?;
-        }
-        Ok(sorted)
+        Sorted::by(heap, self.shape, |board| {
+            matches::<D>(self.entry(board), board, self.fragment(board))
+        })
     }
 
     /// Turns every bit of the first byte of a board's fragment.
