@@ -36,6 +36,13 @@ fn fill_up(heap: Global, design: &[u8], size: usize) -> Result<Vec<u8>, AllocErr
     Ok(block)
 }
 
+/// Where a board's fragment and entry stand among those of all boards.
+fn index_of(board: u16) -> usize
+    ensures { result ≡ board - 1 }
+{
+    usize::from(board).saturating_sub(1)
+}
+
 /// Whether a fragment's digest is its board's entry of the vector.
 fn matches<D: Hash>(entry: &[u8], board: u16, fragment: &[u8]) -> bool
     ensures { IsTrue result ↔ (entry.now ≡ fragment_digest D.hashes board fragment.now) }
@@ -74,7 +81,7 @@ impl<F: Field, D: Hash> Kept<F, D> {
         piece_at(
             &self.fragments,
             self.shape.fragment_bytes::<F>(),
-            usize::from(board).saturating_sub(1),
+            index_of(board),
         )
     }
 
@@ -82,7 +89,7 @@ impl<F: Field, D: Hash> Kept<F, D> {
     pub(crate) fn entry(&self, board: u16) -> &[u8]
         ensures { result.now ≡ entry self.now.vector.items board }
     {
-        piece_at(&self.vector, 32, usize::from(board).saturating_sub(1))
+        piece_at(&self.vector, 32, index_of(board))
     }
 
     /// The digest of a board's fragment as it is now.
@@ -101,7 +108,7 @@ impl<F: Field, D: Hash> Kept<F, D> {
 
     /// Turns every bit of the first byte of a board's fragment.
     pub(crate) fn damage(&mut self, board: u16) {
-        let at = usize::from(board).saturating_sub(1) * self.shape.fragment_bytes::<F>();
+        let at = index_of(board) * self.shape.fragment_bytes::<F>();
         if let Some(byte) = self.fragments.get_mut(at) {
             *byte = !*byte;
         }
