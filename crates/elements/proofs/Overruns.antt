@@ -1,5 +1,5 @@
 -- The first element that is not a code, by a relation and by a function.
-use Rattle.std.proofs.Common.{◌≡◌, ℕ, zero, suc, ◌<◌, ◌≤◌, leb, List, Some, None, Option, MatchOption, sym, refl, ap, ◌∙◌, inl, inr, arith}
+use Rattle.std.proofs.Common.{◌≡◌, ℕ, zero, suc, ◌<◌, ◌≤◌, leb, List, Some, None, Option, sym, refl, ap, ◌∙◌, inl, inr, arith}
 use Rattle.std.specs.Option.{option_or}
 use Rattle.std.specs.Bool.{then_some}
 use Rattle.std.proofs.lemmas.Bool.{le-leb, lt-leb, cases_eq}
@@ -7,13 +7,6 @@ use Rattle.field.specs.Laws.{Arithmetic}
 use Rattle.elements.specs.Element.{element, Elements, FirstOverrun, first_overrun}
 
 module _ (R : Arithmetic) (x : List ℕ) where
-  -- The first of the numbers below n at which an element is not a code.
-  pub first_is : (n : ℕ) (r : Option ℕ) →
-      MatchOption r ((i : ℕ) → 0 ≤ i → i < n → element R x i < R.size)
-      (λ i. (0 ≤ i) × (i < n) × (R.size ≤ element R x i) × ((k : ℕ) → 0 ≤ k → k < i → element R x k < R.size)) → FirstOverrun R x n r
-  first_is n (Some i) h = (h.1, h.2, λ k. h.3 k (omega arith))
-  first_is n None h = λ i. h i (omega arith)
-
   none_overrun : (n : ℕ) → Elements R x n → first_overrun R x n ≡ None
   unfolding first_overrun
   none_overrun zero codes = refl

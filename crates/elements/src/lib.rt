@@ -30,6 +30,15 @@ fn number_of(element: &[u8]) -> u16
     }
 }
 
+/// The number that the bytes of element `i` of a part write, read where they lie.
+fn number_at<F: Field>(part: &[u8], i: usize) -> u16
+    requires { i < length part.now / width F.arithmetic }
+    ensures { result ≡ element F.arithmetic part.now i }
+{
+    let from = i * F::WIDTH;
+    number_of(&part[from..from + F::WIDTH])
+}
+
 /// Element `i` of a part, or none where the part has no such element or its number is not a code.
 pub fn read_element<F: Field>(part: &[u8], i: usize) -> Option<u16>
     ensures { result ≡ (if nat_lt i (length part.now / width F.arithmetic) && nat_lt (element F.arithmetic part.now i) F.arithmetic.size then Some (element F.arithmetic part.now i) else None) }
@@ -37,8 +46,7 @@ pub fn read_element<F: Field>(part: &[u8], i: usize) -> Option<u16>
     if i >= part.len() / F::WIDTH {
         return None;
     }
-    let from = i * F::WIDTH;
-    let value = number_of(&part[from..from + F::WIDTH]);
+    let value = number_at::<F>(part, i);
     (u32::from(value) < F::SIZE).then_some(value)
 }
 
@@ -64,8 +72,12 @@ pub fn write_element<F: Field>(part: &mut [u8], i: usize, value: u16) -> Result<
 pub fn overrun<F: Field>(part: &[u8]) -> Option<usize>
     ensures { FirstOverrun F.arithmetic part.now (length part.now / width F.arithmetic) result }
 {
-    (0..part.len() / F::WIDTH).find(|i| u32::from(number_of(piece_at(part, F::WIDTH, *i)))
-        >= F::SIZE)
+    for i in 0..part.len() / F::WIDTH {
+        if u32::from(number_at::<F>(part, i)) >= F::SIZE {
+            return Some(i);
+        }
+    }
+    None
 }
 
 /// Piece `i` of a byte string in pieces of `size` bytes: one that the string's end cuts is shorter, and one past it empty.
