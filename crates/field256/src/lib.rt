@@ -11,14 +11,15 @@ use field::Field;
 use tables::{inverse_of, logarithm, power_of_three};
 
 /// The operation's answer to two codes, which are the bytes, and 0 to anything else.
-fn on_bytes<O: FnOnce(u8, u8) -> u8 + Drop>(a: u16, b: u16, operation: O) -> u16
+fn on_codes<O: FnOnce(u16, u16) -> u16 + Drop>(a: u16, b: u16, operation: O) -> u16
     requires callable { a < 256 → b < 256 → O.pre operation a b }
     ensures codes { a < 256 → b < 256 → O.post operation a b result }
     ensures others { (256 ≤ a) ⊎ (256 ≤ b) → result ≡ 0 }
 {
-    match (u8::try_from(a), u8::try_from(b)) {
-        (Ok(a), Ok(b)) => u16::from(operation(a, b)),
-        _ => 0,
+    if a < 256 && b < 256 {
+        operation(a, b)
+    } else {
+        0
     }
 }
 
@@ -49,7 +50,7 @@ impl Field for Field256 {
 
     /// Coefficients are added each by itself, modulo 2.
     fn sum(a: u16, b: u16) -> u16 {
-        on_bytes(a, b, |a, b| a ^ b)
+        on_codes(a, b, |a, b| a ^ b)
     }
 
     /// Every element is its own negative, so a difference is a sum.
@@ -60,11 +61,17 @@ impl Field for Field256 {
     /// The power of the sum of the logarithms; that of the code 0 is so large that the power is then 0.
     #[tactic(auto, using(crate::proofs::Logarithms::by_logarithms))]
     fn product(a: u16, b: u16) -> u16 {
-        on_bytes(a, b, |a, b| power_of_three(logarithm(a) + logarithm(b)))
+        on_codes(a, b, |a, b| {
+            u16::from(power_of_three(logarithm(a as u8) + logarithm(b as u8)))
+        })
     }
 
     /// The inverse is read from its table.
     fn inverse(a: u16) -> u16 {
-        u8::try_from(a).map_or(0, |a| u16::from(inverse_of(a)))
+        if a < 256 {
+            u16::from(inverse_of(a as u8))
+        } else {
+            0
+        }
     }
 }
