@@ -11,7 +11,7 @@ use fault::{FieldFault, FrameFault};
 use field::Field;
 use frame::Frame;
 use kind::Kind;
-use layout::{FRONT_BYTES, Layout};
+use layout::{COUNT_BYTES, FRONT_BYTES, Layout};
 use shape::Shape;
 use std::cmp::Ordering;
 
@@ -52,16 +52,17 @@ fn sections<F: Field>(layout: Layout, rest: &[u8]) -> Result<(&[u8], &[u8]), Fra
     let [high, low, payload @ ..] = rest else {
         return Err(ended);
     };
-    if usize::from(u16::from_be_bytes([*high, *low])) != layout.payload_bytes::<F>() {
+    let bytes = layout.payload_bytes::<F>();
+    if usize::from(u16::from_be_bytes([*high, *low])) != bytes {
         return Err(FrameFault::Torn {
             place: FRONT_BYTES + vector.len(),
         });
     }
-    match payload.len().cmp(&layout.payload_bytes::<F>()) {
+    match payload.len().cmp(&bytes) {
         Ordering::Less => Err(ended),
         Ordering::Equal => Ok((vector, payload)),
         Ordering::Greater => Err(FrameFault::Torn {
-            place: layout.frame_bytes::<F>(),
+            place: COUNT_BYTES + vector.len() + bytes,
         }),
     }
 }
