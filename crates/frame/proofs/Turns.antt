@@ -24,13 +24,13 @@ reads_back R s (hash i x) p = grind (arith, common_steps, nat_tests)
 reads_back R s (symbol i x) p = grind (arith, common_steps, nat_tests)
 
 -- What the definition says of sections that are there.
-record Sectioned (v w : ℕ) (rest vec payload : Bytes) : Type 0 where
+pub record Sectioned (v w : ℕ) (rest vec payload : Bytes) : Type 0 where
   pub long : length rest ≡ v + 2 + w
   pub count : 256 * get_or (drop v rest) 0 0 + get_or (drop v rest) 1 0 ≡ w
   pub vec_is : vec ≡ take v rest
   pub payload_is : payload ≡ drop (v + 2) rest
 
-sectioned_is : (v w : ℕ) (rest vec payload : Bytes) → sectioned v w rest ≡ Ok (vec, payload) → Sectioned v w rest vec payload
+pub sectioned_is : (v w : ℕ) (rest vec payload : Bytes) → sectioned v w rest ≡ Ok (vec, payload) → Sectioned v w rest vec payload
 sectioned_is v w rest vec payload h = grind (arith, nat_tests)
 
 -- The first bytes of a string, and the rest.

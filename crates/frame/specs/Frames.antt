@@ -8,7 +8,7 @@ use Rattle.kind.specs.declared.Kind.TheVariants.{Send, Echo, Ready, Hash, Symbol
 use Rattle.protocol.specs.Messages.{Bytes, Message, send, echo, ready, hash, symbol, kind, sender}
 use Rattle.frame.specs.declared.Frame.{Frame}
 use Rattle.frame.specs.declared.Frame.TheVariants.{Send as SendFrame, Echo as EchoFrame, Ready as ReadyFrame, Hash as HashFrame, Symbol as SymbolFrame}
-use Rattle.kind.specs.Numbers.{number}
+use Rattle.layout.specs.Kinds.{row}
 
 abbrev pub message : Frame → Message
 message (SendFrame v x) = send v.now x.now
@@ -45,7 +45,7 @@ abbrev pub framed : ℕ → ℕ → Bytes → Bytes → Bytes
 framed k i v x = (k ∷ (i ∷ ((length v / 32) % 256 ∷ []))) ++ (v ++ (written 2 (length x) ++ x))
 
 abbrev pub encode : Message → Bytes
-encode m = framed (number (kind m)) (sender m) (vector m) (payload m)
+encode m = framed (row (kind m)).number (sender m) (vector m) (payload m)
 
 -- What writing a message to a place answers, and what the place holds then: the frame at its front, or what it held if it has no room for it.
 pub record Written (m : Message) (before : Bytes) (r : Result ℕ Refusal) (after : Bytes) : Type 0 where

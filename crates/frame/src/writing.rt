@@ -35,7 +35,7 @@ fn has_room(place: usize, digests: usize, bytes: usize) -> bool
 }
 
 /// Writes a frame to the front of a place, and answers its length. Short, with the place as found, where it has no room for the frame.
-#[tactic(auto, using(crate::proofs::Turns::reads_back))]
+#[tactic(auto, using(crate::proofs::Turns::reads_back, layout::proofs::Numbers::row_number))]
 pub fn write(frame: Frame, place: &mut [u8]) -> Result<usize, Refusal>
     ensures is { Written (message frame.entry) place.old result place.new }
     ensures back { (R : Arithmetic) (s : Shape) → Proper R s (message frame.entry) → reads R s (encode (message frame.entry)) ≡ Ok (message frame.entry) }
