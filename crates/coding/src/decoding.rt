@@ -24,6 +24,8 @@ impl fmt::Display for Undecodable {
 
     ghost output = { λ u. Some (reason u) };
 
+    ghost styled_output = { λ u spec. Some (reason u) };
+
     fn fmt<W: fmt::Write>(&self, f: &mut fmt::Formatter<W>) -> fmt::Result {
         f.write_str(match self {
             Undecodable::Unfit => "a length or the boards do not fit",
