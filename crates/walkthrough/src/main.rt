@@ -119,11 +119,11 @@ fn tell_words(rt: &HostRuntime, design: &[u8]) -> io::Result<()> {
 }
 
 /// Tells the rounds one after another, and says of each whether the design came back.
-fn tell_rounds(rt: &HostRuntime, design: &[u8]) -> io::Result<Vec<bool>> {
-    let mut answers = Vec::new(rt.alloc());
+fn tell_rounds(rt: &HostRuntime, design: &[u8]) -> io::Result<[bool; 8]> {
+    let mut answers = [false; 8];
     for (i, round) in ROUNDS.iter().enumerate() {
         println!(rt; "\nRound {} of {}: {round}", i + 1, ROUNDS.len())?;
-        answers.push(round.tell(rt, design)?)?;
+        answers[i] = round.tell(rt, design)?;
     }
     Ok(answers)
 }

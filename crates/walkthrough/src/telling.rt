@@ -1,4 +1,6 @@
 // What is printed of a round.
+ghost use Rattle.std.specs.Prelude.{◌≡◌, ◌↔◌, IfOk, IsOkAnd, IsTrue};
+
 use crate::choices::last_board;
 use crate::fetching::Fetched;
 use crate::keeping::Kept;
@@ -62,7 +64,9 @@ pub(crate) fn tell_fetch(
     label: &str,
     fetched: &Fetched,
     design: &[u8],
-) -> io::Result<bool> {
+) -> io::Result<bool>
+    ensures { IfOk result (λ back. IsTrue back ↔ IsOkAnd fetched.now.design (λ given. given.items ≡ design.now)) }
+{
     println!(rt;
         "{label}{}; used:{}",
         Boards(&fetched.left_out),
